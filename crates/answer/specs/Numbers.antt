@@ -1,0 +1,38 @@
+-- Document 01's answer numbers.
+use Prim.Native.Nat.{ℕ}
+use Rattle.answer.specs.declared.Refusal.{Refusal}
+use Rattle.answer.specs.declared.Refusal.the-variants.{Cut, CounterSpent, SenderAbsent, KeyNotAllowed, CounterRepeated, CounterBehind, PairCounterRepeated, PairCounterBehind, NoNetworkKey, NoPair, TableFull, DeviceAbsent, WrongTag, CounterExhausted, Unsupported, NoRoom}
+use Rattle.answer.specs.declared.Outcome.{Outcome}
+use Rattle.answer.specs.declared.Outcome.the-variants as outcome
+use Rattle.answer.specs.declared.Answer.{Answer}
+use Rattle.answer.specs.declared.Answer.the-variants as answer
+use Rattle.answer.specs.declared.Told.{Told}
+
+-- the number of each refusal
+abbrev pub number : Refusal → ℕ
+number Cut = 2
+number CounterSpent = 3
+number SenderAbsent = 3
+number KeyNotAllowed = 3
+number CounterRepeated = 3
+number CounterBehind = 3
+number PairCounterRepeated = 4
+number PairCounterBehind = 4
+number NoNetworkKey = 4
+number NoPair = 4
+number TableFull = 4
+number DeviceAbsent = 4
+number WrongTag = 5
+number CounterExhausted = 6
+number Unsupported = 7
+number NoRoom = 8
+
+abbrev pub outcomeNumber : Outcome → ℕ
+outcomeNumber outcome.Done = 0
+outcomeNumber (outcome.Refused r) = number r
+
+-- number, start and length: 0 done, 1 plain; a refusal gives start and length 0
+abbrev pub told : Answer → Told
+told (answer.Done start len) = record { number = 0; start = start; len = len }
+told (answer.Plain start len) = record { number = 1; start = start; len = len }
+told (answer.Refused r) = record { number = number r; start = 0; len = 0 }
