@@ -1,0 +1,3 @@
+pub mod Field
+pub mod Rounds
+pub mod Levels
