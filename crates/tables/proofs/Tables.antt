@@ -1,8 +1,8 @@
 -- The tables of src/lib.rt as lists, and the rule of each at every entry: one test that the checker computes, carried to each entry by
 -- one law. Assumes nothing.
-use mathlib.Core.Path.{_≡_, refl, sym, ap, _∙_}
+use mathlib.Core.Path.{_≡_, refl, ap, _∙_}
 use mathlib.Core.List.{List, [], _∷_}
-use Prim.Native.Nat.{ℕ, suc, _+_, _*_, _<_}
+use Prim.Native.Nat.{ℕ, suc, _<_}
 use lib.Dec.{T}
 use lib.ListN.{getD}
 use Rattle.laws.specs.Rule.{follows, each-entry, same-below}

@@ -1,0 +1,3 @@
+pub mod Lists
+pub mod WordLaws
+pub mod RoundKeys

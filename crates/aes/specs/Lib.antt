@@ -1,0 +1,3 @@
+pub mod Cipher
+pub mod Schedule
+pub mod Words

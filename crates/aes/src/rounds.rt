@@ -1,0 +1,135 @@
+// FIPS 197, 5.1: one block. SubBytes, ShiftRows and MixColumns of a column are four entries of the round table, added.
+ghost use mathlib.Core.Path.{_≡_};
+ghost use mathlib.Core.List.{[], _∷_};
+ghost use Prim.Native.Nat.{_<_, _%_};
+ghost use lib.ListN.{getD};
+ghost use Rattle.tables.specs.Field.{sbox};
+ghost use Rattle.tables.specs.Rounds.{IsRound};
+ghost use Rattle.aes.specs.Cipher.{subBytes, shiftRows, mixColumn, mixColumns, addRoundKey, cipher};
+ghost use Rattle.aes.specs.Schedule.{xorWord};
+ghost use Rattle.aes.specs.Words.{bytes, byteOf, four, keyBytes};
+use crate::words::joined;
+use crate::words::listed;
+use crate::words::xored;
+
+// A state: its four columns.
+struct State {
+    a: u32,
+    b: u32,
+    c: u32,
+    d: u32,
+}
+
+fn low(x: u64) -> u32
+    ensures { λ r. ⌜ r ≡ x % 4294967296 ⌝ }
+{
+    (x % 4294967296) as u32
+}
+
+fn entry(table: &[u64; 256], x: u32) -> u64
+    requires { ⌜ x < 256 ⌝ }
+    ensures { λ r. ⌜ r ≡ getD (now (table .entry)) x 0 ⌝ }
+{
+    table[x as usize]
+}
+
+// The substituted byte: every entry has it as its second.
+fn substituted(table: &[u64; 256], x: u32) -> u8
+    requires { ⌜ IsRound (now table) ⌝ }
+    requires { ⌜ x < 256 ⌝ }
+    ensures { λ r. ⌜ r ≡ sbox x ⌝ }
+{
+    (entry(table, x) / 256 % 256) as u8
+}
+
+// A column of the next state, from the columns that ShiftRows takes its four bytes from.
+fn column(table: &[u64; 256], a: u32, b: u32, c: u32, d: u32, key: u32) -> u32
+    requires { ⌜ IsRound (now table) ⌝ }
+    ensures { λ r. ⌜ bytes r ≡ xorWord (mixColumn (sbox (byteOf a 0)) (sbox (byteOf b 1)) (sbox (byteOf c 2)) (sbox (byteOf d 3))) (bytes key) ⌝ }
+{
+    let p = low(entry(table, a % 256));
+    let q = low(entry(table, b / 256 % 256) / 16777216);
+    let r = low(entry(table, c / 65536 % 256) / 65536);
+    let s = low(entry(table, d / 16777216 % 256) / 256);
+    p ^ q ^ r ^ s ^ key
+}
+
+// The same in the last round, which has no MixColumns.
+fn last_column(table: &[u64; 256], a: u32, b: u32, c: u32, d: u32, key: u32) -> u32
+    requires { ⌜ IsRound (now table) ⌝ }
+    ensures { λ r. ⌜ bytes r ≡ xorWord (sbox (byteOf a 0) ∷ sbox (byteOf b 1) ∷ sbox (byteOf c 2) ∷ sbox (byteOf d 3) ∷ []) (bytes key) ⌝ }
+{
+    xored(
+        joined(
+            substituted(table, a % 256),
+            substituted(table, b / 256 % 256),
+            substituted(table, c / 65536 % 256),
+            substituted(table, d / 16777216 % 256),
+        ),
+        key,
+    )
+}
+
+// Round n, of those that have MixColumns.
+fn round(table: &[u64; 256], keys: &[u32; 44], s: State, n: usize) -> State
+    requires { ⌜ IsRound (now table) ⌝ }
+    requires { ⌜ n < 11 ⌝ }
+    ensures { λ r. ⌜ four (r .a) (r .b) (r .c) (r .d) ≡ addRoundKey (mixColumns (shiftRows (subBytes (four (s .a) (s .b) (s .c) (s .d))))) (keyBytes (now (keys .entry))) n ⌝ }
+{
+    State {
+        a: column(table, s.a, s.b, s.c, s.d, keys[4 * n]),
+        b: column(table, s.b, s.c, s.d, s.a, keys[4 * n + 1]),
+        c: column(table, s.c, s.d, s.a, s.b, keys[4 * n + 2]),
+        d: column(table, s.d, s.a, s.b, s.c, keys[4 * n + 3]),
+    }
+}
+
+// A block, and the first round key added to it.
+fn begun(keys: &[u32; 44], block: [u8; 16]) -> State
+    ensures { λ r. ⌜ four (r .a) (r .b) (r .c) (r .d) ≡ addRoundKey block (keyBytes (now (keys .entry))) 0 ⌝ }
+{
+    State {
+        a: xored(joined(block[0], block[1], block[2], block[3]), keys[0]),
+        b: xored(joined(block[4], block[5], block[6], block[7]), keys[1]),
+        c: xored(joined(block[8], block[9], block[10], block[11]), keys[2]),
+        d: xored(joined(block[12], block[13], block[14], block[15]), keys[3]),
+    }
+}
+
+// The last round.
+fn ended(table: &[u64; 256], keys: &[u32; 44], s: State) -> [u8; 16]
+    requires { ⌜ IsRound (now table) ⌝ }
+    ensures { λ r. ⌜ r ≡ addRoundKey (shiftRows (subBytes (four (s .a) (s .b) (s .c) (s .d)))) (keyBytes (now (keys .entry))) 10 ⌝ }
+{
+    let a = last_column(table, s.a, s.b, s.c, s.d, keys[40]);
+    let b = last_column(table, s.b, s.c, s.d, s.a, keys[41]);
+    let c = last_column(table, s.c, s.d, s.a, s.b, keys[42]);
+    let d = last_column(table, s.d, s.a, s.b, s.c, keys[43]);
+    listed(a, b, c, d)
+}
+
+// One block, with the round table lent. The nine rounds are written out: a loop is slower.
+pub fn encipher(table: &[u64; 256], keys: &[u32; 44], block: [u8; 16]) -> [u8; 16]
+    requires { ⌜ IsRound (now table) ⌝ }
+    ensures { λ r. ⌜ r ≡ cipher (keyBytes (now (keys .entry))) block ⌝ }
+{
+    let s0 = begun(keys, block);
+    let s1 = round(table, keys, s0, 1);
+    let s2 = round(table, keys, s1, 2);
+    let s3 = round(table, keys, s2, 3);
+    let s4 = round(table, keys, s3, 4);
+    let s5 = round(table, keys, s4, 5);
+    let s6 = round(table, keys, s5, 6);
+    let s7 = round(table, keys, s6, 7);
+    let s8 = round(table, keys, s7, 8);
+    let s9 = round(table, keys, s8, 9);
+    ended(table, keys, s9)
+}
+
+// One block, with nothing asked of the caller.
+pub fn encrypt(keys: &[u32; 44], block: [u8; 16]) -> [u8; 16]
+    ensures { λ r. ⌜ r ≡ cipher (keyBytes (now (keys .entry))) block ⌝ }
+{
+    let table = tables::ROUND;
+    encipher(&table, keys, block)
+}

@@ -1,0 +1,55 @@
+// Words of four bytes, the byte of row 0 lowest.
+ghost use mathlib.Core.Path.{_≡_};
+ghost use mathlib.Core.List.{[], _∷_};
+ghost use Prim.Native.Nat.{_%_};
+ghost use Rattle.aes.specs.Schedule.{xorWord};
+ghost use Rattle.aes.specs.Words.{bytes, four};
+
+pub fn wide(x: u8) -> u32
+    ensures { λ r. ⌜ r ≡ x ⌝ }
+{
+    x as u32
+}
+
+pub fn byte(x: u32) -> u8
+    ensures { λ r. ⌜ r ≡ x % 256 ⌝ }
+{
+    (x % 256) as u8
+}
+
+pub fn joined(a: u8, b: u8, c: u8, d: u8) -> u32
+    ensures { λ r. ⌜ bytes r ≡ a ∷ b ∷ c ∷ d ∷ [] ⌝ }
+{
+    wide(a) + wide(b) * 256 + wide(c) * 65536 + wide(d) * 16777216
+}
+
+// Two words, added byte by byte.
+pub fn xored(a: u32, b: u32) -> u32
+    ensures { λ r. ⌜ bytes r ≡ xorWord (bytes a) (bytes b) ⌝ }
+{
+    a ^ b
+}
+
+// The sixteen bytes of four columns.
+pub fn listed(a: u32, b: u32, c: u32, d: u32) -> [u8; 16]
+    ensures { λ r. ⌜ r ≡ four a b c d ⌝ }
+{
+    [
+        byte(a),
+        byte(a / 256),
+        byte(a / 65536),
+        byte(a / 16777216),
+        byte(b),
+        byte(b / 256),
+        byte(b / 65536),
+        byte(b / 16777216),
+        byte(c),
+        byte(c / 256),
+        byte(c / 65536),
+        byte(c / 16777216),
+        byte(d),
+        byte(d / 256),
+        byte(d / 65536),
+        byte(d / 16777216),
+    ]
+}

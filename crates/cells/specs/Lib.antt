@@ -1,0 +1,14 @@
+-- The definitions, and beside each the laws about it, in reading order.
+pub mod Lists
+pub mod ListLaws
+pub mod Rows
+pub mod RowLaws
+pub mod Search
+pub mod FreeRows
+pub mod Machine
+pub mod Product
+pub mod Reorder
+pub mod ReorderLaws
+pub mod Desk
+pub mod DeskLaws
+pub mod Order
