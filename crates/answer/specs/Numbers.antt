@@ -36,3 +36,13 @@ abbrev pub told : Answer → Told
 told (answer.Done start len) = record { number = 0; start = start; len = len }
 told (answer.Plain start len) = record { number = 1; start = start; len = len }
 told (answer.Refused r) = record { number = number r; start = 0; len = 0 }
+
+-- one check after another: the first refusal counts
+abbrev pub andThen : Outcome → Outcome → Outcome
+andThen outcome.Done next = next
+andThen (outcome.Refused r) next = outcome.Refused r
+
+-- what a call leaves: the one where it was done, the other where it was refused
+abbrev pub whenDone : {A : Type 0} → Outcome → A → A → A
+whenDone outcome.Done done kept = done
+whenDone (outcome.Refused r) done kept = kept

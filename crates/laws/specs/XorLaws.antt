@@ -1,7 +1,7 @@
 -- Laws of XOR: of numbers (it associates and cancels), of strings of octets, and the test that all differences are zero.
 -- Assumes nothing.
 use mathlib.Core.Path.{_≡_, refl, sym, ap, ap₂, _∙_}
-use mathlib.Core.Bool.{true, _&&_, and-assoc}
+use mathlib.Core.Bool.{true, _&&_, and-assoc, and-eq-true-iff, false≢true}
 use mathlib.Core.List.{List, [], _∷_, _++_, append-assoc, append-nil}
 use Prim.Native.Nat.{ℕ, zero, suc, _+_, _*_, _/_, _%_, _<_, _≤_, min}
 use native.Mathlib.Decide.{decLe, ℕ-discrete}
@@ -12,7 +12,7 @@ use lib.Bits.{bitXor, bitOr, differ, xor-step, xor-self, xor-zero-r, xor-add-and
 use lib.Dec.{eqb}
 use lib.ListN.{length, take, drop, replicate, getD, set, length-take, length-drop, length-append, take-append-drop, drop-of-length-le}
 use lib.Seq.{drop-cons, take-all, take-suc-set, drop-set-lt}
-use borrow.Author.Tests.{eq-eqb, ne-eqb}
+use borrow.Author.Tests.{eq-eqb, ne-eqb, eqb-true}
 use Rattle.laws.specs.Octets.{_⊕_, same}
 
 -- ---- numbers
@@ -175,3 +175,10 @@ pub same-refl : (x : List ℕ) → same x x ≡ true
 unfolding same
 same-refl [] = refl
 same-refl (a ∷ x) = rw (eq-eqb a a refl, same-refl x)
+
+pub same-sound : (x y : List ℕ) → same x y ≡ true → x ≡ y
+unfolding same
+same-sound [] [] e = refl
+same-sound [] (b ∷ y) e = absurd (false≢true e)
+same-sound (a ∷ x) [] e = absurd (false≢true e)
+same-sound (a ∷ x) (b ∷ y) e = let p = and-eq-true-iff (eqb a b) (same x y) .0 e in λ i. eqb-true a b (p .0) i ∷ same-sound x y (p .1) i

@@ -1,0 +1,4 @@
+pub mod Laws
+pub mod FrameLaws
+pub mod Fitting
+pub mod RoundTrip

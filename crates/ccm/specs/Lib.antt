@@ -1,0 +1,2 @@
+pub mod Ccm
+pub mod Frame

@@ -1,0 +1,10 @@
+// CCM (RFC 3610) over AES-128: a nonce of 13 bytes, lengths and counters of two, the tag's length a parameter.
+mod calls;
+mod counter;
+mod frames;
+mod mac;
+mod octets;
+
+pub use calls::seal;
+pub use calls::unseal;
+pub use octets::xor_into;
