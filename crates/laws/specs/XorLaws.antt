@@ -121,10 +121,6 @@ xor-zeros zero (a ∷ x) [] = refl
 xor-zeros (suc k) (a ∷ x) [] = λ i. xor-zero-r a i ∷ (xor-zeros k x [] ∙ xor-nil x) i
 xor-zeros k (a ∷ x) (b ∷ y) = ap (λ (r : List ℕ). bitXor a b ∷ r) (xor-zeros k x y)
 
--- XOR into the rest keeps the length
-pub xor-rest-length : (k : ℕ) (s y : List ℕ) → length (take k s ++ (drop k s ⊕ y)) ≡ length s
-xor-rest-length k s y = length-append (take k s) (drop k s ⊕ y) ∙ simp (xor-length, length-take, length-drop) (omega arith)
-
 -- a turn of a loop that XORs y into x: the octet at j is done, and what is left starts at the next
 pub xor-turn : (x y : List ℕ) (j : ℕ) → j < length x → j < length y
     → take (suc j) (set x j (bitXor (getD x j 0) (getD y j 0))) ++ (drop (suc j) (set x j (bitXor (getD x j 0) (getD y j 0))) ⊕ drop (suc j) y)
