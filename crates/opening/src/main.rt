@@ -32,7 +32,14 @@ fn frame_of(s: &[u8]) -> [u8; 64] {
 }
 
 // One opening of a copy of the frame: 1 where it opened.
-fn open_copy(keys: &[u32; 44], nonce: [u8; 13], frame: [u8; 64], at: usize, n: usize, tag: usize) -> usize
+fn open_copy(
+    keys: &[u32; 44],
+    nonce: [u8; 13],
+    frame: [u8; 64],
+    at: usize,
+    n: usize,
+    tag: usize,
+) -> usize
     ensures { λ r. ⌜ r ≤ 1 ⌝ }
 {
     let mut copy = frame;

@@ -1,0 +1,2 @@
+pub mod HashLaws
+pub mod PaddingLaws

@@ -1,0 +1,3 @@
+pub mod Hash
+pub mod KeyedHash
+pub mod Limits
