@@ -1,0 +1,16 @@
+// The security control byte, the auxiliary header and the nonce (ZB 4.5.1, 4.5.2.2; document 01, Layouts).
+mod auxiliary;
+mod control;
+mod octets;
+mod protection;
+
+pub use auxiliary::Auxiliary;
+pub use auxiliary::AuxiliaryRead;
+pub use auxiliary::KeyUsed;
+pub use auxiliary::Sender;
+pub use auxiliary::auxiliary_length;
+pub use auxiliary::read;
+pub use auxiliary::write;
+pub use control::Control;
+pub use control::KeyIdentifier;
+pub use protection::nonce;

@@ -1,0 +1,3 @@
+pub mod Flat
+pub mod Rows
+pub mod Closing

@@ -1,0 +1,12 @@
+pub mod Active
+pub mod Sending
+pub mod Keys
+pub mod KeyLaws
+pub mod Pairs
+pub mod Counters
+pub mod CounterLaws
+pub mod Gaps
+pub mod Forgetting
+pub mod Lent
+pub mod LentLaws
+pub mod Cases
