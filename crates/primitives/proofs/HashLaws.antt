@@ -105,5 +105,6 @@ keyed K text k x i y r ek ex ei ey er =
     let m : (p : List ℕ) → length (k ⊕ p) ≡ 16 = λ p. xor-length k p ∙ l in
     let a : i ≡ hash ((k ⊕ ipad) ++ text) = cc (hash-after zeroBlock (k ⊕ ipad) text (m ipad)) in
     let n : length i ≡ 16 = ap length a ∙ hash-length ((k ⊕ ipad) ++ text) in
-    let b : padding (16 + length i) ≡ padding 32 = ap (λ (j : ℕ). padding (16 + j)) n in
-    cc (hash-after zeroBlock (k ⊕ opad) i (m opad))
+    let p : padding (16 + length i) ≡ padding 32 = ap (λ (j : ℕ). padding (16 + j)) n in
+    let b : r ≡ hash ((k ⊕ opad) ++ i) = cc (hash-after zeroBlock (k ⊕ opad) i (m opad)) in
+    b ∙ ap (λ (z : List ℕ). hash ((k ⊕ opad) ++ z)) a ∙ ap (λ (q : List ℕ). hash ((q ⊕ opad) ++ hash ((q ⊕ ipad) ++ text))) ek

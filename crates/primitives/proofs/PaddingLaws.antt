@@ -1,7 +1,7 @@
 -- Padding: how many octets it has, and how it is written. Assumes nothing.
 use mathlib.Core.Path.{_≡_, refl, sym, ap, _∙_}
 use mathlib.Core.List.{List, [], _∷_, _++_, append-assoc}
-use Prim.Native.Nat.{ℕ, suc, _+_, _-_, _*_, _/_, _%_, _<_}
+use Prim.Native.Nat.{ℕ, suc, _+_, _-_, _*_, _/_, _%_, _<_, _≤_}
 use native.Mathlib.Omega.{arith}
 use lib.ListN.{length, take, drop, set, replicate, length-append, length-replicate, replicate-append-replicate}
 use lib.Seq.{set-at, take-at, drop-at, take-length}
@@ -12,10 +12,14 @@ pub pad-octets : (length (padding 13) ≡ 3) × (length (padding 14) ≡ 18) × 
 unfolding padding
 pad-octets = (refl, refl, refl, refl, refl)
 
--- a padded message is whole blocks; its padding has 0x80, the length, and less than a block of zeros, so none shorter would do
-pub pad-whole : (m : ℕ) → ((m + length (padding m)) % 16 ≡ 0) × (length (padding m) < 3 + 16)
+-- 0x80, less than a block of zeros, and the length
+pub pad-length : (m : ℕ) → length (padding m) ≡ (29 - m % 16) % 16 + 3
 unfolding padding
-pad-whole m = (simp (length-append, length-replicate) (omega arith), simp (length-append, length-replicate) (omega arith))
+pad-length m = simp (length-append, length-replicate) (omega arith)
+
+-- so a padded message is whole blocks, and no shorter padding would make it so
+pub pad-whole : (m : ℕ) → ((m + length (padding m)) % 16 ≡ 0) × (length (padding m) < 3 + 16)
+pad-whole m = (simp pad-length (omega arith), simp pad-length (omega arith))
 
 -- s, zeros, and then one octet after s and two at the end written over
 written : (s : List ℕ) (z n e : ℕ) (q : List ℕ) (a b c : ℕ) → length s ≡ n → n + z + 3 ≡ e
@@ -37,17 +41,15 @@ zeros n = replicate n 0
 dropped : (n k : ℕ) → drop n (zeros (n + k)) ≡ zeros k
 dropped n k = ap (drop n) (sym (replicate-append-replicate n k 0)) ∙ drop-at (zeros n) (zeros k) n (length-replicate n 0)
 
--- the code's way: s copied over zeros, 0x80 after it, and the length at the end of the blocks
-pub padded : (s : List ℕ) (total : ℕ) → length s ≡ total % 16
-    → (let n = length s in let e = (n + 3 + 15) / 16 * 16 in
-    take e (set (set (set (take n s ++ drop n (zeros 32)) n 0x80) (e - 2) (8 * total / 256 % 256)) (e - 1) (8 * total % 256))) ≡ s ++ padding total
+-- the code's way, in e octets: s copied over zeros, 0x80 after it, and the length at the end
+pub padded : (s : List ℕ) (total e : ℕ) → e ≡ length s + length (padding total) → e ≤ 32
+    → take e (set (set (set (take (length s) s ++ drop (length s) (zeros 32)) (length s) 0x80) (e - 2) (8 * total / 256 % 256)) (e - 1) (8 * total % 256)) ≡ s ++ padding total
 unfolding padding
-padded s total h =
+padded s total e q l =
     let n = length s in
     let z = (29 - total % 16) % 16 in
-    let e = (n + 3 + 15) / 16 * 16 in
     let r = 32 - e in
-    let w : n + z + 3 ≡ e = omega arith in
+    let w : n + z + 3 ≡ e = omega (arith, q, pad-length total) in
     let f : 32 ≡ n + suc (z + suc (suc r)) = omega arith in
     let v : drop n (zeros 32) ≡ 0 ∷ (zeros z ++ (0 ∷ 0 ∷ zeros r)) =
     ap (λ (k : ℕ). drop n (zeros k)) f ∙ dropped n (suc (z + suc (suc r))) ∙ ap (λ (x : List ℕ). 0 ∷ x) (sym (replicate-append-replicate z (suc (suc r)) 0)) in

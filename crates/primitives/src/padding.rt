@@ -1,7 +1,7 @@
 // Annex B.6: the padding.
 ghost use mathlib.Core.Path.{_≡_};
 ghost use mathlib.Core.List.{_++_};
-ghost use Prim.Native.Nat.{_%_, _<_, _≤_};
+ghost use Prim.Native.Nat.{_+_, _%_, _<_, _≤_};
 ghost use lib.ListN.{length, take};
 ghost use Rattle.primitives.specs.Hash.{padding};
 
@@ -14,7 +14,8 @@ pub struct Padded {
 // s, which is what a message of total bytes has after its last whole block, and then the padding: one block or two.
 pub fn pad(s: &[u8], total: usize) -> Padded
     requires { ⌜ (total < 8192) × (length (now s) ≡ total % 16) ⌝ }
-    ensures { λ r. ⌜ (r .len ≤ 32) × (take (r .len) (r .bytes) ≡ now (s .entry) ++ padding total) ⌝ }
+    ensures { λ r. ⌜ (r .len ≡ length (now (s .entry)) + length (padding total)) × (r .len ≤ 32)
+        × (take (r .len) (r .bytes) ≡ now (s .entry) ++ padding total) ⌝ }
 {
     let n = s.len();
     let bits = 8 * total;

@@ -1,10 +1,8 @@
 -- `primitives::keyed::keyed_with` meets its contract. The callees' contracts in a row. Assumes nothing.
-use mathlib.Core.Path.{_≡_}
+use mathlib.Core.Path.{ap, _∙_}
 use native.Mathlib.Omega.{arith}
 use borrow.Author.Needs.{needs}
-use Rattle.laws.specs.Octets.{_⊕_}
 use Rattle.primitives.specs.Hash.{step, zeroBlock}
-use Rattle.primitives.specs.KeyedHash.{ipad, opad}
 use Rattle.primitives.proofs.HashLaws.{keyed}
 use Rattle.primitives.proofs.keyed.keyed_with.Statement.{statement}
 use Rattle.primitives.proofs.keyed.keyed_with.Tie as tie
@@ -20,8 +18,8 @@ returns c =
     let i = c .before .before .before .before in
     let k = i .before .before .before in
     let a = k .before .before .before .args in
-    let x : i .before .step .result ≡ step zeroBlock (k .key-block .result ⊕ ipad) = cc in
-    let y : c .before .before .step2 .result ≡ step zeroBlock (k .key-block .result ⊕ opad) = cc in
+    let x = i .before .step .ensures ∙ ap (step zeroBlock) (i .before .before .masked .ensures) in
+    let y = c .before .before .step2 .ensures ∙ ap (step zeroBlock) (c .before .before .before .masked2 .ensures) in
     keyed (a .key .now) (a .text .now) _ _ _ _ _ (k .key-block .ensures) x (i .finish .ensures) y (c .finish2 .ensures)
 
 pub keyed-with-spec : {M : Type 1} → statement M

@@ -1,0 +1,3 @@
+pub mod OpenNwk
+pub mod Halves
+pub mod SecureNwk

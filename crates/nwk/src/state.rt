@@ -1,0 +1,10 @@
+// What a call is told of the gateway's state, by value.
+use nib::NetworkKeys;
+
+// The level, the gateway's own address, the number of the active key, and the network keys.
+pub struct Nwk {
+    pub level: u8,
+    pub own: u64,
+    pub active: u8,
+    pub keys: NetworkKeys,
+}

@@ -1,0 +1,5 @@
+-- In reading order.
+pub mod Keys
+pub mod Protection
+pub mod Claims
+pub mod Heard
