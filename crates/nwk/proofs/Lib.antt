@@ -1,1 +1,4 @@
 pub mod Commit
+pub mod SecuringLaws
+pub mod RoundProtection
+pub mod RoundNwk

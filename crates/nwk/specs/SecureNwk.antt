@@ -17,6 +17,7 @@ use Rattle.header.specs.Nwk.{nwkOf}
 use Rattle.nib.specs.declared.outgoing.Outgoing.{Outgoing}
 use Rattle.nib.specs.Keys.{keyFound}
 use Rattle.nib.specs.Sending.{mayUse}
+use Rattle.nwk.specs.declared.secure.SecuredNwk.{SecuredNwk}
 use Rattle.nwk.specs.declared.state.Nwk.{Nwk}
 use Rattle.protection.specs.Protection.{level, securedOctets}
 
@@ -26,6 +27,10 @@ pub record Secured : Type 0 where
   pub out : List ℕ
   pub outgoing : Outgoing
 
+-- by what the call returns and what it has written
+abbrev pub left : SecuredNwk → List ℕ → Secured
+left r out = record { answer = r .answer; out = out; outgoing = r .outgoing }
+
 -- a refusal changes nothing
 abbrev pub notSecured : Refusal → List ℕ → Outgoing → Secured
 notSecured why out o = record { answer = Refused why; out = out; outgoing = o }
@@ -34,12 +39,14 @@ notSecured why out o = record { answer = Refused why; out = out; outgoing = o }
 abbrev pub nwkAdded : ℕ
 nwkAdded = 14 + 4
 
--- the finished frame, from the plain one whose header has so many bytes
+-- the headers of the finished frame, from the plain one whose header has so many bytes
+abbrev pub nwkHeaders : Nwk → ℕ → List ℕ → ℕ → List ℕ
+nwkHeaders s counter plain header = take header plain ++ auxiliaryOctets (sent Network) counter (s .own) (s .active)
+
+-- the finished frame
 unfoldable pub nwkOnAir : Nwk → ℕ → List ℕ → ℕ → List ℕ
 nwkOnAir s counter plain header =
-    securedOctets ((keyFound (s .keys) (s .active)) .row .key) (s .own) counter header
-    (take header plain ++ auxiliaryOctets (sent Network) counter (s .own) (s .active))
-    (drop header plain)
+    securedOctets ((keyFound (s .keys) (s .active)) .row .key) (s .own) counter header (nwkHeaders s counter plain header) (drop header plain)
 
 -- done: output bytes past the finished frame stay unchanged, and the outgoing counter rises by 1
 abbrev pub nwkDone : Nwk → Outgoing → List ℕ → List ℕ → ℕ → Secured

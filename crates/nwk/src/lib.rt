@@ -1,7 +1,10 @@
 // Opening and securing NWK frames (security/mod.rs of the Rust; document 01, 'Order of checks').
 mod open;
+mod secure;
 mod state;
 
 pub use open::OpenedNwk;
 pub use open::open_nwk;
+pub use secure::SecuredNwk;
+pub use secure::secure_nwk;
 pub use state::Nwk;

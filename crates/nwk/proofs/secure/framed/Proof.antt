@@ -1,0 +1,66 @@
+-- `nwk::secure::framed` meets its contract. Assumes nothing.
+use mathlib.Core.Path.{ap, sym, _∙_}
+use borrow.Author.Tests.{le-leb, lt-leb, lt-ltb, le-ltb, not-false}
+use borrow.Author.Needs.{needs}
+use Rattle.nib.specs.declared.keys.KeyFound.{KeyFound}
+use Rattle.nwk.proofs.secure.framed.Statement.{statement}
+use Rattle.nwk.proofs.secure.framed.Tie as tie
+
+returns : tie.Need-returns
+returns c =
+    rw (c .refuse .ensures, le-leb _ _ (c .before .if1 .taken))
+
+returns-2 : tie.Need-returns-2
+returns-2 c =
+    rw (c .refuse2 .ensures, lt-leb _ _ (c .before .before .before .if1 .left), c .before .if2 .taken)
+
+returns-3 : tie.Need-returns-3
+returns-3 c =
+    let k = c .before .before .before in
+    rw (c .refuse3 .ensures, lt-leb _ _ (k .before .before .before .if1 .left), k .before .if2 .left, ← k .key-of .ensures, c .before .if3 .taken)
+
+returns-4 : tie.Need-returns-4
+returns-4 c =
+    let u = c .before .before in
+    let k = u .before .before .before in
+    rw (c .refuse4 .ensures, lt-leb _ _ (k .before .before .before .if1 .left), k .before .if2 .left, ← k .key-of .ensures, u .before .if3 .left, ← u .usable .ensures, c .before .if4 .taken)
+
+returns-5 : tie.Need-returns-5
+returns-5 c =
+    let u = c .before .before .before in
+    let k = u .before .before .before in
+    rw (c .refuse5 .ensures, lt-leb _ _ (k .before .before .before .if1 .left), k .before .if2 .left, ← k .key-of .ensures, u .before .if3 .left, ← u .usable .ensures, c .before .before .if4 .left, lt-ltb _ _ (c .before .if5 .taken))
+
+finish-requires : tie.Need-finish-requires
+finish-requires c κs =
+    let u = c .before .before .before .before in
+    let k = u .before .before .before in
+    (ap (λ (f : KeyFound). f .row) (k .key-of .ensures), sym (u .usable .ensures) ∙ not-false _ (c .before .before .before .if4 .left), search needs, search needs, search needs)
+
+returns-6 : tie.Need-returns-6
+returns-6 c =
+    let n = c .before .before .before .before .before in
+    let u = n .before .before in
+    let k = u .before .before .before in
+    c .before .before .finish .ensures ∙ rw (lt-leb _ _ (k .before .before .before .if1 .left), k .before .if2 .left, ← k .key-of .ensures, u .before .if3 .left, ← u .usable .ensures, n .before .if4 .left, le-ltb _ _ (n .if5 .left))
+
+pub framed-spec : {M : Type 1} → statement M
+framed-spec =
+    tie.close
+    (tie.spec
+    (λ c κs. search needs)
+    returns
+    (λ c κs. search needs)
+    returns-2
+    (λ c κs. search needs)
+    (λ c κs. search needs)
+    returns-3
+    (λ c κs. search needs)
+    (λ c κs. search needs)
+    returns-4
+    (λ c. search needs)
+    (λ c κs. search needs)
+    returns-5
+    finish-requires
+    (λ c. search needs)
+    returns-6)
