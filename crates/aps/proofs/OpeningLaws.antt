@@ -1,0 +1,174 @@
+-- The steps of an opening make up its definition, on plain values. Assumes nothing.
+use mathlib.Core.Path.{_≡_, refl, sym, _∙_}
+use mathlib.Core.Bool.{Bool, true, false, cond, not, _||_}
+use mathlib.Core.List.{List, [], _∷_}
+use mathlib.Core.Option.{Option, none, some}
+use Prim.Native.Nat.{ℕ, _+_, _≤_}
+use native.Mathlib.Omega.{arith}
+use lib.Dec.{eqb, ltb}
+use lib.ListN.{length, take-append-drop}
+use lib.Seq.{length-take-le}
+use borrow.Author.Tests.{le-ltb, ltb-false}
+use Rattle.answer.specs.declared.Answer.{Answer}
+use Rattle.answer.specs.declared.Answer.the-variants as answer
+use Rattle.answer.specs.declared.Outcome.{Outcome}
+use Rattle.answer.specs.declared.Outcome.the-variants.{Done, Refused}
+use Rattle.answer.specs.declared.Refusal.{Refusal}
+use Rattle.answer.specs.declared.Refusal.the-variants.{Unsupported, Cut, PairCounterRepeated, PairCounterBehind, WrongTag, TableFull}
+use Rattle.cells.specs.Lists.{any}
+use Rattle.cells.specs.Rows.{Reaction, leave, become, isRow, hasRow, find, put, room, settle}
+use Rattle.aib.specs.declared.pairs.PairRow.{PairRow}
+use Rattle.aib.specs.declared.pairs.Pairs.{Pairs}
+use Rattle.aib.specs.Pairs.{Pair, pairOf, pairRows, answered, pairFound}
+use Rattle.aib.specs.Counters.{inUse, holding, heard, recorded}
+use Rattle.frame.specs.Control.{identifierOf}
+use Rattle.protection.specs.declared.claims.Claim.{Claim}
+use Rattle.protection.specs.Keys.{keyFor}
+use Rattle.protection.specs.Heard.{Heard, refused, equals, below}
+use Rattle.protection.specs.Protection.{payloadSize, vouches, openedOctets}
+use Rattle.protection.specs.declared.claims.Who.the-variants.{Told, Claims}
+use Rattle.protection.specs.Claims.{apsWho}
+use Rattle.aps.specs.declared.state.Aps.{Aps}
+use Rattle.aps.specs.OpenAps.{apsUnfit, unchanged, apsPlaced, openAps, Opened, linkKey, incoming, apsJudged, apsCommitted}
+use Rattle.aps.specs.Opening.{heldIn, allowed, tried, replied, kept, committed}
+
+-- ---- the tests before the tag, and the rest
+
+module _ (c : Claim) (held : Option Pair) (free : Bool) (b : List ℕ) where
+  abbrev pub key : List ℕ
+  key = keyFor (identifierOf (c .control .byte)) (linkKey held)
+
+  abbrev pub reaction : Bool → Bool → Bool → Bool → Reaction Heard Pair
+  reaction repeated behind cut right =
+      cond repeated (leave (refused PairCounterRepeated b))
+      (cond behind (leave (refused PairCounterBehind b))
+      (cond cut (leave (refused Cut b))
+      (cond (not right) (leave (refused WrongTag b))
+      (become (heard held (c .counter))
+      (record { answer = answer.Done (c .payload) (payloadSize (c .payload) b); frame = openedOctets key (c .sender) (c .counter) (c .at) (c .payload) b })
+      (refused TableFull b)))))
+
+  abbrev outcome : Bool → Bool → Bool → Outcome
+  outcome repeated behind cut = cond repeated (Refused PairCounterRepeated) (cond behind (Refused PairCounterBehind) (cond cut (Refused Cut) Done))
+
+  pub judged-refused : (why : Refusal) → allowed c (incoming held) (length b) ≡ Refused why → refused why b ≡ replied free (apsJudged c held b)
+  unfolding allowed apsJudged
+  judged-refused why =
+      go (equals (incoming held) (c .counter)) (below (incoming held) (c .counter)) (ltb (length b) (c .payload + 4)) (vouches key (c .sender) (c .counter) (c .at) (c .payload) b)
+    where
+      is : {q : Refusal} → Refused q ≡ Refused why → refused why b ≡ refused q b
+      is {q} e = let z : q ≡ why = cc in rw z
+
+      go : (t1 t2 t3 t4 : Bool) → outcome t1 t2 t3 ≡ Refused why → refused why b ≡ replied free (reaction t1 t2 t3 t4)
+      go true t2 t3 t4 e = is e
+      go false true t3 t4 e = is e
+      go false false true t4 e = is e
+      go false false false t4 e = let z : _≡_ {A = ℕ} 0 1 = cc in absurd (omega arith)
+
+  pub judged-allowed : allowed c (incoming held) (length b) ≡ Done → (tried c key free b ≡ replied free (apsJudged c held b)) × (c .payload + 4 ≤ length b)
+  unfolding allowed apsJudged tried
+  judged-allowed =
+      go (equals (incoming held) (c .counter)) (below (incoming held) (c .counter)) (ltb (length b) (c .payload + 4)) (vouches key (c .sender) (c .counter) (c .at) (c .payload) b) refl
+    where
+      with-tag : (t4 : Bool) → cond (not t4) (refused WrongTag b) (cond free (record { answer = answer.Done (c .payload) (payloadSize (c .payload) b); frame = openedOctets key (c .sender) (c .counter) (c .at) (c .payload) b }) (refused TableFull b)) ≡ replied free (reaction false false false t4)
+      with-tag true = refl
+      with-tag false = refl
+
+      go : (t1 t2 t3 t4 : Bool) → ltb (length b) (c .payload + 4) ≡ t3 → outcome t1 t2 t3 ≡ Done
+          → (cond (not t4) (refused WrongTag b) (cond free (record { answer = answer.Done (c .payload) (payloadSize (c .payload) b); frame = openedOctets key (c .sender) (c .counter) (c .at) (c .payload) b }) (refused TableFull b)) ≡ replied free (reaction t1 t2 t3 t4)) × (c .payload + 4 ≤ length b)
+      go true t2 t3 t4 l e = let z : _≡_ {A = ℕ} 0 1 = cc in absurd (omega arith)
+      go false true t3 t4 l e = let z : _≡_ {A = ℕ} 0 1 = cc in absurd (omega arith)
+      go false false true t4 l e = let z : _≡_ {A = ℕ} 0 1 = cc in absurd (omega arith)
+      go false false false t4 l e = (with-tag t4, ltb-false (length b) (c .payload + 4) l)
+
+-- ---- what a search finds
+
+found-row : (rs : List PairRow) (d : ℕ) → (answered d (find pairRows rs d)) .found ≡ hasRow pairRows rs d
+unfolding find hasRow any
+found-row [] d = refl
+found-row (r ∷ rs) d = at (isRow pairRows d r) (found-row rs d)
+  where
+    at : (t : Bool) → (answered d (find pairRows rs d)) .found ≡ hasRow pairRows rs d
+        → (answered d (cond t (some (pairOf r)) (find pairRows rs d))) .found ≡ t || hasRow pairRows rs d
+    at true e = refl
+    at false e = e
+
+held-found : (d : ℕ) (o : Option Pair) → heldIn (answered d o) ≡ o
+held-found d none = refl
+held-found d (some p) = refl
+
+module _ (pairs : Pairs) (d : ℕ) where
+  pub held-is : heldIn (pairFound pairs d) ≡ find pairRows (inUse pairs) d
+  unfolding pairFound
+  held-is = held-found d (find pairRows (inUse pairs) d)
+
+  module _ (sixteen : length (pairs .rows) ≡ 16) (few : pairs .used ≤ 16) where
+    counted : length (inUse pairs) ≡ pairs .used
+    counted = length-take-le (pairs .used) (pairs .rows) (omega arith)
+
+    pub room-is : (pairFound pairs d) .found || ltb (pairs .used) 16 ≡ room pairRows 16 (inUse pairs) d
+    unfolding pairFound room
+    room-is = rw (found-row (inUse pairs) d, counted)
+
+    -- the rows in use put back where they were
+    unmoved : holding (inUse pairs) pairs ≡ pairs
+    unmoved = rw (counted, take-append-drop)
+
+    recorded-is : (c : ℕ) (r : Bool) → room pairRows 16 (inUse pairs) d ≡ r
+        → (recorded pairs d c) .pairs ≡ holding (cond r (put pairRows (inUse pairs) d (heard (find pairRows (inUse pairs) d) c)) (inUse pairs)) pairs
+    unfolding recorded
+    recorded-is c true e = rw (le-ltb 16 (pairs .used) few, e)
+    recorded-is c false e = rw (le-ltb 16 (pairs .used) few, e, unmoved)
+
+-- ---- the commit
+
+module _ (pairs : Pairs) (c : Claim) (b : List ℕ) (sixteen : length (pairs .rows) ≡ 16) (few : pairs .used ≤ 16) where
+  abbrev held : Option Pair
+  held = find pairRows (inUse pairs) (c .sender)
+
+  abbrev free : Bool
+  free = room pairRows 16 (inUse pairs) (c .sender)
+
+  abbrev pub finished : Heard → Opened
+  finished h = record { answer = h .answer; frame = h .frame; pairs = kept pairs c (h .answer) }
+
+  pub commits : finished (replied free (apsJudged c held b)) ≡ committed pairs c b
+  unfolding committed apsJudged settle
+  commits =
+      go (equals (incoming held) (c .counter)) (below (incoming held) (c .counter)) (ltb (length b) (c .payload + 4)) (vouches (key c held free b) (c .sender) (c .counter) (c .at) (c .payload) b) free refl
+    where
+      left : {h : Heard} → record { answer = h .answer; frame = h .frame; pairs = pairs } ≡ apsCommitted pairs (record { out = h; rows = inUse pairs })
+      left {h} = λ i. record { answer = h .answer; frame = h .frame; pairs = sym (unmoved pairs (c .sender) sixteen few) i }
+
+      go : (t1 t2 t3 t4 r : Bool) → free ≡ r
+          → finished (replied r (reaction c held free b t1 t2 t3 t4)) ≡ apsCommitted pairs (settle pairRows 16 (inUse pairs) (c .sender) (reaction c held free b t1 t2 t3 t4))
+      go true t2 t3 t4 r e = left
+      go false true t3 t4 r e = left
+      go false false true t4 r e = left
+      go false false false false r e = left
+      go false false false true true e = rw (e, recorded-is pairs (c .sender) sixteen few (c .counter) true e)
+      go false false false true false e = rw e left
+
+-- ---- the whole
+
+module _ (s : Aps) (pairs : Pairs) (b : List ℕ) where
+  pub opens-unfit : apsUnfit s pairs ≡ true → unchanged pairs (refused Unsupported b) ≡ openAps s pairs b
+  unfolding openAps
+  opens-unfit u = rw u
+
+  module _ (fits : apsUnfit s pairs ≡ false) where
+    pub opens-told : (a : Answer) → apsWho b ≡ Told a → unchanged pairs (record { answer = a; frame = b }) ≡ openAps s pairs b
+    unfolding openAps apsPlaced
+    opens-told a w = rw (fits, w)
+
+    pub opens-claim : (c : Claim) → apsWho b ≡ Claims c → committed pairs c b ≡ openAps s pairs b
+    unfolding openAps apsPlaced committed
+    opens-claim c w = rw (fits, w)
+
+-- a state that is taken has no more pair rows in use than there are
+pub fit : (level used : ℕ) → (not (eqb level 5) || ltb 16 used) ≡ false → used ≤ 16
+fit level used = go (not (eqb level 5)) (ltb 16 used) refl
+  where
+    go : (t u : Bool) → ltb 16 used ≡ u → (t || u) ≡ false → used ≤ 16
+    go true u l e = let z : _≡_ {A = ℕ} 0 1 = cc in absurd (omega arith)
+    go false u l e = ltb-false 16 used (l ∙ e)

@@ -1,0 +1,4 @@
+-- In reading order.
+pub mod OnAir
+pub mod Desks
+pub mod Needed

@@ -1,0 +1,94 @@
+-- Two NWK frames as they go on the air, without payload: what they claim, and that their tags are right, computed by AES and CCM as they
+-- are defined. Assumes nothing.
+use mathlib.Core.Path.{_≡_, refl}
+use mathlib.Core.Bool.{true}
+use mathlib.Core.Option.{none, some}
+use mathlib.Core.List.{List, [], _∷_}
+use Prim.Native.Nat.{ℕ}
+use Rattle.laws.specs.Octets.{same, _⊕_}
+use Rattle.laws.specs.Blocks.{blocks, cut}
+use Rattle.laws.specs.Numbers.{low, field, value, bit}
+use Rattle.tables.specs.Field.{sbox, mul, roundConstant}
+use Rattle.aes.specs.Cipher.{cipher}
+use Rattle.aes.specs.Schedule.{keyExpansion}
+use Rattle.ccm.specs.Ccm.{vouched, vouchedFrom, tagFrom, chain, counted, head, headBlocks, stream}
+use Rattle.ccm.specs.Frame.{vouchedFrame}
+use Rattle.frame.specs.Nonce.{nonceOf}
+use Rattle.frame.specs.Auxiliary.{auxiliaryAt}
+use Rattle.frame.specs.Control.{hasSender, hasNumber, identifierOf}
+use Rattle.frame.specs.declared.auxiliary.KeyUsed.the-variants as used
+use Rattle.header.specs.Nwk.{nwkOf, nwkLength, nwkFixed}
+use Rattle.answer.specs.declared.Answer.the-variants.{Done}
+use Rattle.answer.specs.declared.Refusal.the-variants.{CounterRepeated, TableFull}
+use Rattle.cells.specs.Rows.{Reaction, leave, become}
+use Rattle.nib.specs.declared.keys.NetworkKeys.{NetworkKeys}
+use Rattle.nib.specs.Keys.{keyFound}
+use Rattle.protection.specs.declared.claims.Claim.{Claim}
+use Rattle.protection.specs.declared.claims.Who.the-variants.{Claims}
+use Rattle.protection.specs.Claims.{nwkWho}
+use Rattle.protection.specs.Heard.{Heard, refused}
+use Rattle.protection.specs.Protection.{vouches, openedOctets}
+use Rattle.nwk.specs.OpenNwk.{nwkJudged}
+
+-- the key is 00 01 .. 0F, under either number
+abbrev pub key : List ℕ
+key = 0 ∷ 1 ∷ 2 ∷ 3 ∷ 4 ∷ 5 ∷ 6 ∷ 7 ∷ 8 ∷ 9 ∷ 10 ∷ 11 ∷ 12 ∷ 13 ∷ 14 ∷ 15 ∷ []
+
+abbrev pub sender : ℕ
+sender = 0x0011223344556677
+
+-- key number 2, counter 5
+abbrev pub underTwo : List ℕ
+underTwo =
+    0x08 ∷ 0x02 ∷ 0x00 ∷ 0x00 ∷ 0x34 ∷ 0x12 ∷ 0x1E ∷ 0x01
+    ∷ 0x28 ∷ 0x05 ∷ 0x00 ∷ 0x00 ∷ 0x00 ∷ 0x77 ∷ 0x66 ∷ 0x55 ∷ 0x44 ∷ 0x33 ∷ 0x22 ∷ 0x11 ∷ 0x00 ∷ 0x02
+    ∷ 0x7B ∷ 0x8E ∷ 0xB0 ∷ 0x66 ∷ []
+
+-- key number 3, counter 5
+abbrev pub underThree : List ℕ
+underThree =
+    0x08 ∷ 0x02 ∷ 0x00 ∷ 0x00 ∷ 0x34 ∷ 0x12 ∷ 0x1E ∷ 0x01
+    ∷ 0x28 ∷ 0x05 ∷ 0x00 ∷ 0x00 ∷ 0x00 ∷ 0x77 ∷ 0x66 ∷ 0x55 ∷ 0x44 ∷ 0x33 ∷ 0x22 ∷ 0x11 ∷ 0x00 ∷ 0x03
+    ∷ 0xB9 ∷ 0x74 ∷ 0x2B ∷ 0x09 ∷ []
+
+pub two-vouches : vouches key sender 5 8 22 underTwo ≡ true
+unfolding vouches vouchedFrame vouched vouchedFrom same tagFrom _⊕_ chain blocks cut counted head headBlocks stream cipher keyExpansion sbox roundConstant mul nonceOf low
+two-vouches = refl
+
+pub three-vouches : vouches key sender 5 8 22 underThree ≡ true
+unfolding vouches vouchedFrame vouched vouchedFrom same tagFrom _⊕_ chain blocks cut counted head headBlocks stream cipher keyExpansion sbox roundConstant mul nonceOf low
+three-vouches = refl
+
+-- ---- what the two frames claim, and how they are judged where no counter is held
+
+abbrev pub claimUnder : ℕ → Claim
+claimUnder n = record { key = used.Network n; sender = sender; counter = 5; control = record { byte = 0x28 }; at = 8; payload = 22 }
+
+-- the frame opens, unless there is no row for it
+abbrev pub opensFresh : List ℕ → Reaction Heard ℕ
+opensFresh b = become 5 (record { answer = Done 22 0; frame = openedOctets key sender 5 8 22 b }) (refused TableFull b)
+
+-- the keys have the row that the frame names
+abbrev pub Has : NetworkKeys → ℕ → Type 0
+Has keys n = keyFound keys n ≡ record { found = true; row = record { number = n; key = key } }
+
+pub two-claims : (keys : NetworkKeys) → Has keys 2 → nwkWho keys underTwo ≡ Claims (claimUnder 2)
+unfolding nwkWho nwkOf nwkLength nwkFixed auxiliaryAt hasSender hasNumber identifierOf field value bit
+two-claims keys h = rw h
+
+pub three-claims : (keys : NetworkKeys) → Has keys 3 → nwkWho keys underThree ≡ Claims (claimUnder 3)
+unfolding nwkWho nwkOf nwkLength nwkFixed auxiliaryAt hasSender hasNumber identifierOf field value bit
+three-claims keys h = rw h
+
+pub two-opens : (keys : NetworkKeys) → Has keys 2 → nwkJudged keys (claimUnder 2) none underTwo ≡ opensFresh underTwo
+unfolding nwkJudged
+two-opens keys h = rw (h, two-vouches)
+
+pub three-opens : (keys : NetworkKeys) → Has keys 3 → nwkJudged keys (claimUnder 3) none underThree ≡ opensFresh underThree
+unfolding nwkJudged
+three-opens keys h = rw (h, three-vouches)
+
+-- a second copy is refused
+pub two-again : (keys : NetworkKeys) → nwkJudged keys (claimUnder 2) (some 5) underTwo ≡ leave (refused CounterRepeated underTwo)
+unfolding nwkJudged
+two-again keys = refl
