@@ -1,7 +1,6 @@
 pub mod OpeningLaws
 pub mod SendingLaws
 pub mod LayoutLaws
-pub mod RoundProtection
 pub mod RoundAps
 pub mod Refusals
 pub mod Once

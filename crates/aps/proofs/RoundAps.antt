@@ -38,7 +38,7 @@ use Rattle.protection.specs.Protection.{tagSize, payloadSize, vouches, openedOc
 use Rattle.aps.specs.declared.state.Aps.{Aps}
 use Rattle.aps.specs.OpenAps.{Opened, linkKey, incoming, apsCommitted, apsJudged, apsPlaced, apsUnfit, openAps}
 use Rattle.aps.specs.SecureAps.{Secured, apsOnAir, secureAps}
-use Rattle.aps.proofs.RoundProtection as protection
+use Rattle.protection.proofs.RoundTrip as protection
 use Rattle.aps.proofs.LayoutLaws.{thirteen}
 use Rattle.aps.proofs.SendingLaws.{header-some, Taken, Goes, Sent, went-out}
 

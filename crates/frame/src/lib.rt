@@ -1,8 +1,8 @@
 // The security control byte, the auxiliary header and the nonce (ZB 4.5.1, 4.5.2.2; document 01, Layouts).
 mod auxiliary;
 mod control;
+mod nonces;
 mod octets;
-mod protection;
 
 pub use auxiliary::Auxiliary;
 pub use auxiliary::AuxiliaryRead;
@@ -13,4 +13,5 @@ pub use auxiliary::read;
 pub use auxiliary::write;
 pub use control::Control;
 pub use control::KeyIdentifier;
-pub use protection::nonce;
+pub use nonces::nonce;
+pub use octets::number_at;

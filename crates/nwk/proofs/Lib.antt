@@ -1,4 +1,3 @@
 pub mod Commit
 pub mod SecuringLaws
-pub mod RoundProtection
 pub mod RoundNwk

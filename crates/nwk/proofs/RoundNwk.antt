@@ -39,7 +39,7 @@ use Rattle.protection.specs.Protection.{level, tagSize, payloadSize, vouches, o
 use Rattle.nwk.specs.declared.state.Nwk.{Nwk}
 use Rattle.nwk.specs.OpenNwk.{Opened, nwkCommitted, nwkJudged, nwkPlaced, nwkUnfit, openNwk}
 use Rattle.nwk.specs.SecureNwk.{Secured, notSecured, nwkAdded, nwkHeaders, nwkOnAir, nwkDone, nwkFramed, secureNwk}
-use Rattle.nwk.proofs.RoundProtection as protection
+use Rattle.protection.proofs.RoundTrip as protection
 use Rattle.nwk.proofs.SecuringLaws.{auxiliary-size}
 
 -- ---- what a securing that is done has checked

@@ -1,3 +1,4 @@
 pub mod Within
 pub mod ClaimLaws
 pub mod Answers
+pub mod RoundTrip

@@ -10,8 +10,8 @@ use Rattle.laws.specs.Numbers.{low}
 use Rattle.laws.specs.NumberLaws.{low-length}
 use Rattle.frame.specs.Nonce.{nonceOf}
 use Rattle.frame.proofs.Turns.{stored-next, stored-whole}
-use Rattle.frame.proofs.protection.nonce.Statement.{statement}
-use Rattle.frame.proofs.protection.nonce.Tie as tie
+use Rattle.frame.proofs.nonces.nonce.Statement.{statement}
+use Rattle.frame.proofs.nonces.nonce.Tie as tie
 
 -- three strings one after the other
 whole : (zeros first second : List ℕ) (sender counter control : ℕ) → length zeros ≡ 13

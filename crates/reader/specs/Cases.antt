@@ -1,0 +1,30 @@
+-- Case 15 of document 01, computed on the definitions. Assumes nothing.
+use mathlib.Core.Path.{_≡_, refl}
+use mathlib.Core.List.{List, [], _∷_}
+use Prim.Native.Nat.{ℕ}
+use Rattle.laws.specs.Numbers.{field, value, bit}
+use Rattle.cells.specs.Rows.{find}
+use Rattle.frame.specs.Auxiliary.{auxiliaryAt}
+use Rattle.frame.specs.Control.{hasSender, hasNumber, identifierOf}
+use Rattle.header.specs.Nwk.{nwkOf, nwkLength, nwkFixed}
+use Rattle.nib.specs.Keys.{keyFound}
+use Rattle.protection.specs.Claims.{nwkWho}
+use Rattle.nwk.specs.OpenNwk.{openNwk, nwkPlaced}
+use Rattle.reader.specs.Fields.{fieldAt}
+use Rattle.reader.specs.Reading.{Printed, line, started, activeField, frameField, acted, stepped, printed, linesFrom, lines}
+
+abbrev case-15 : List ℕ
+case-15 =
+    0x03 ∷ 0x01 ∷ 0x00 ∷ 0x07 ∷
+    0x10 ∷ 0x09 ∷ 0x00 ∷ 0x08 ∷ 0x00 ∷ 0x00 ∷ 0x00 ∷ 0x34 ∷ 0x12 ∷ 0x1E ∷ 0x01 ∷ 0xAA ∷
+    0x10 ∷ 0x03 ∷ 0x00 ∷ 0x08 ∷ 0x02 ∷ 0x00 ∷
+    0x10 ∷ 0x1B ∷ 0x00 ∷ 0x08 ∷ 0x02 ∷ 0x00 ∷ 0x00 ∷ 0x34 ∷ 0x12 ∷ 0x1E ∷ 0x02 ∷ 0x28 ∷ 0x05 ∷ 0x00 ∷
+    0x00 ∷ 0x00 ∷ 0x77 ∷ 0x66 ∷ 0x55 ∷ 0x44 ∷ 0x33 ∷ 0x22 ∷ 0x11 ∷ 0x00 ∷ 0x07 ∷ 0xAA ∷ 0xBB ∷ 0xCC ∷ 0xDD ∷ 0xEE ∷ []
+
+-- a line's number, answer, start and length
+abbrev says : ℕ → ℕ → ℕ → ℕ → Printed
+says k n start len = line (record { frame = k; told = record { number = n; start = start; len = len } })
+
+pub prints-case-15 : lines case-15 ≡ says 1 1 8 1 ∷ says 2 2 0 0 ∷ says 3 4 0 0 ∷ []
+unfolding lines linesFrom printed stepped fieldAt acted activeField frameField started field value bit find auxiliaryAt hasSender hasNumber identifierOf nwkOf nwkLength nwkFixed keyFound nwkWho openNwk nwkPlaced
+prints-case-15 = refl

@@ -1,0 +1,262 @@
+// Fields act in order. A line for each frame: its number from 1, answer, start, length.
+ghost use mathlib.Core.Path.{_≡_};
+ghost use Prim.Native.Nat.{_≤_};
+ghost use lib.ListN.{length};
+ghost use Rattle.reader.specs.Reading.{started, bad, quiet, keyField, counterField, activeField, frameField, acted, stepped};
+use crate::fields::FieldRead;
+use crate::fields::field_at;
+use crate::rows::key_in;
+use crate::rows::repeated;
+use crate::rows::with_key;
+use answer::Answer;
+use answer::Refusal;
+use answer::Told;
+use nib::NetworkKey;
+use nib::NetworkKeys;
+use nwk::Nwk;
+
+// The gateway, the place in the input, and how many frames were presented.
+pub struct Reader {
+    pub nwk: Nwk,
+    pub numbers: [u8; 64],
+    pub senders: [u64; 64],
+    pub counters: [u32; 64],
+    pub used: usize,
+    pub at: usize,
+    pub frames: u64,
+}
+
+pub struct Line {
+    pub frame: u64,
+    pub told: Told,
+}
+
+// What a field gives: nothing to say, a line, the line `bad` (reading stops), or the end.
+pub enum Event {
+    Quiet,
+    Tells(Line),
+    Bad,
+    End,
+}
+
+pub struct Step {
+    pub event: Event,
+    pub reader: Reader,
+}
+
+// Level 5, active 0 and empty tables.
+pub fn start() -> Reader
+    ensures { λ r. ⌜ r ≡ started ⌝ }
+{
+    let none = NetworkKey {
+        number: 0,
+        key: [0; 16],
+    };
+    Reader {
+        nwk: Nwk {
+            level: 5,
+            own: 0,
+            active: 0,
+            keys: NetworkKeys {
+                rows: [none; 2],
+                used: 0,
+            },
+        },
+        numbers: [0; 64],
+        senders: [0; 64],
+        counters: [0; 64],
+        used: 0,
+        at: 0,
+        frames: 0,
+    }
+}
+
+fn bad(reader: Reader) -> Step
+    ensures { λ r. ⌜ r ≡ bad reader ⌝ }
+{
+    Step {
+        event: Event::Bad,
+        reader,
+    }
+}
+
+fn quiet(reader: Reader) -> Step
+    ensures { λ r. ⌜ r ≡ quiet reader ⌝ }
+{
+    Step {
+        event: Event::Quiet,
+        reader,
+    }
+}
+
+// 0x01: number, key.
+fn key_field(reader: Reader, body: &[u8]) -> Step
+    ensures { λ r. ⌜ r ≡ keyField reader (now (body .entry)) ⌝ }
+{
+    if body.len() != 17 {
+        return bad(reader);
+    }
+    let mut nwk = reader.nwk;
+    let keys = nwk.keys;
+    if 2 <= keys.used {
+        return bad(reader);
+    }
+    let number = body[0];
+    if nib::key_of(keys, number).found {
+        return bad(reader);
+    }
+    let key = key_in(&body[1..]);
+    let more = with_key(keys, NetworkKey { number, key });
+    nwk.keys = more;
+    let mut next = reader;
+    next.nwk = nwk;
+    quiet(next)
+}
+
+// 0x02: number, sender, counter.
+fn counter_field(reader: Reader, body: &[u8]) -> Step
+    ensures { λ r. ⌜ r ≡ counterField reader (now (body .entry)) ⌝ }
+{
+    if body.len() != 13 {
+        return bad(reader);
+    }
+    let used = reader.used;
+    if 64 <= used {
+        return bad(reader);
+    }
+    let number = body[0];
+    let sender = frame::number_at(body, 1, 8);
+    let counter = frame::number_at(body, 9, 4) as u32;
+    let mut numbers = reader.numbers;
+    let mut senders = reader.senders;
+    let mut counters = reader.counters;
+    if repeated(&numbers, &senders, used, number, sender) < used {
+        return bad(reader);
+    }
+    let recorded = nib::record(
+        &mut numbers,
+        &mut senders,
+        &mut counters,
+        used,
+        number,
+        sender,
+        counter,
+    );
+    let mut next = reader;
+    next.numbers = numbers;
+    next.senders = senders;
+    next.counters = counters;
+    next.used = recorded.used;
+    quiet(next)
+}
+
+// 0x03: the active number.
+fn active_field(reader: Reader, body: &[u8]) -> Step
+    ensures { λ r. ⌜ r ≡ activeField reader (now (body .entry)) ⌝ }
+{
+    if body.len() != 1 {
+        return bad(reader);
+    }
+    let mut nwk = reader.nwk;
+    nwk.active = body[0];
+    let mut next = reader;
+    next.nwk = nwk;
+    quiet(next)
+}
+
+// A frame of a size that is taken, opened in a copy.
+fn open_copy(reader: Reader, body: &[u8]) -> Step
+    requires { ⌜ length (now body) ≤ 1024 ⌝ }
+    ensures { λ r. ⌜ r ≡ frameField reader (now (body .entry)) ⌝ }
+{
+    let n = body.len();
+    let mut frame = [0u8; 1024];
+    bytes::copy(body, &mut frame);
+    let mut nwk = reader.nwk;
+    let mut numbers = reader.numbers;
+    let mut senders = reader.senders;
+    let mut counters = reader.counters;
+    let opened = nwk::open_nwk(
+        nwk,
+        &mut numbers,
+        &mut senders,
+        &mut counters,
+        reader.used,
+        &mut frame[..n],
+    );
+    let answer = opened.answer;
+    let number = std::num::wrapping_add_u64(reader.frames, 1);
+    nwk.active = opened.active;
+    let next = Reader {
+        nwk,
+        numbers,
+        senders,
+        counters,
+        used: opened.used,
+        at: reader.at,
+        frames: number,
+    };
+    let line = Line {
+        frame: number,
+        told: answer::told_of(answer),
+    };
+    Step {
+        event: Event::Tells(line),
+        reader: next,
+    }
+}
+
+// 0x10: a frame. One of more than 1,024 bytes is refused as it stands (7).
+fn frame_field(reader: Reader, body: &[u8]) -> Step
+    ensures { λ r. ⌜ r ≡ frameField reader (now (body .entry)) ⌝ }
+{
+    if body.len() <= 1024 {
+        return open_copy(reader, body);
+    }
+    let number = std::num::wrapping_add_u64(reader.frames, 1);
+    let mut next = reader;
+    next.frames = number;
+    let line = Line {
+        frame: number,
+        told: answer::told_of(Answer::Refused(Refusal::Unsupported)),
+    };
+    Step {
+        event: Event::Tells(line),
+        reader: next,
+    }
+}
+
+fn acted(reader: Reader, tag: u8, body: &[u8]) -> Step
+    ensures { λ r. ⌜ r ≡ acted reader tag (now (body .entry)) ⌝ }
+{
+    match tag {
+        0x01 => key_field(reader, body),
+        0x02 => counter_field(reader, body),
+        0x03 => active_field(reader, body),
+        0x10 => frame_field(reader, body),
+        _ => bad(reader),
+    }
+}
+
+// One field of the input s, from where the reader stands.
+pub fn next(reader: Reader, s: &[u8]) -> Step
+    ensures { λ r. ⌜ r ≡ stepped reader (now (s .entry)) ⌝ }
+{
+    if 65536 < s.len() {
+        return bad(reader);
+    }
+    match field_at(s, reader.at) {
+        FieldRead::End => Step {
+            event: Event::End,
+            reader,
+        },
+        FieldRead::Cut => bad(reader),
+        FieldRead::Whole(field) => {
+            let from = field.from;
+            let to = field.to;
+            let mut next = reader;
+            next.at = to;
+            acted(next, field.tag, &s[from..to])
+        }
+    }
+}
