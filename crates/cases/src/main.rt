@@ -1,6 +1,7 @@
 // Document 01's cases, run through the public functions, as far as they can be run: a line each, compared with `stdout`. The frames are
 // those of a logger with address 0x0011223344556677 and key 0x40 to 0x4F, made with OpenSSL's CCM (header 08 02 00 00 34 12 1E 01,
-// payload the letter T, or none); the lines follow from document 01's table, the payload T being 54.
+// payload the letter T, or none); the program that made them is not in the repository. `stdout` was set down from document 01's table
+// before the first run, but for the hash, which OpenSSL's AES computed. P4 and P6 are proved (crate `order`) and not run here.
 use answer::Answer;
 use frame::Control;
 use frame::KeyIdentifier;
