@@ -1,5 +1,5 @@
 #!/usr/bin/env python3
-"""Writes samples/: inputs of the frame reader, and the lines that they should give.
+"""Writes samples/: inputs of the frame reader, and the lines that they should give; and the frame reader's stored run.
 
     python3 tools/samples.py            write the files
     python3 tools/samples.py --check    say whether they are as this program would write them
@@ -19,6 +19,11 @@ CASE_15 = bytes.fromhex('''
 
 KEYS = {7: bytes(range(0x40, 0x50)), 8: bytes(range(0x80, 0x90))}
 LOGGERS = {'retort 1': (0x00124B0001A0B101, 0x1001), 'retort 2': (0x00124B0001A0B102, 0x1002), 'cold store': (0x00124B0001A0B103, 0x1003)}
+
+
+# document 01's answer numbers, by reason
+DONE, PLAIN, CUT, WRONG_TAG, NO_KEY = 0, 1, 2, 5, 4
+REPEATED, BEHIND, PAIR_REPEATED, PAIR_BEHIND = 3, 3, 4, 4
 
 
 def field(tag, body):
@@ -44,22 +49,23 @@ class Gateway:
 
     def open(self, b):
         if len(b) < 8:
-            return 2, 0, 0
+            return CUT, 0, 0
         if not b[1] & 2:
-            return 1, 8, len(b) - 8
+            return PLAIN, 8, len(b) - 8
         counter, sender, number = int.from_bytes(b[9:13], 'little'), b[13:21], b[21]
         if number not in self.keys:
-            return 4, 0, 0
-        if (number, sender) in self.held and counter <= self.held[number, sender]:
-            return 3, 0, 0
+            return NO_KEY, 0, 0
+        held = self.held.get((number, sender), -1)
+        if counter <= held:
+            return REPEATED if counter == held else BEHIND, 0, 0
         try:
             AESCCM(self.keys[number], tag_length=4).decrypt(sender + b[9:13] + b'\x2d', b[22:], b[:8] + b'\x2d' + b[9:22])
         except InvalidTag:
-            return 5, 0, 0
+            return WRONG_TAG, 0, 0
         self.held[number, sender] = counter
         if number == (self.active + 1) % 256:
             self.active = number
-        return 0, 22, len(b) - 26
+        return DONE, 22, len(b) - 26
 
 
 def lines(fields):
@@ -113,7 +119,8 @@ def main():
     made = {'samples/case-15.fields': CASE_15, 'samples/shift.fields': shift(), 'samples/shift.lines': lines(shift())}
     made['samples/case-15.lines'] = lines(CASE_15)
     assert made['samples/case-15.lines'] == b'1 1 8 1\n2 2 0 0\n3 4 0 0\n'
-    made['crates/frame_reader/stdin'], made['crates/frame_reader/stdout'] = CASE_15, made['samples/case-15.lines']
+    both = CASE_15 + shift()    # the stored run of the frame reader: case 15, and the shift after it
+    made['crates/frame_reader/stdin'], made['crates/frame_reader/stdout'] = both, lines(both)
     if '--check' in sys.argv[1:]:
         stale = [name for name, text in made.items() if (folder / name).read_bytes() != text]
         print(f'{", ".join(stale)} differ' if stale else 'all files are as computed')
@@ -123,4 +130,5 @@ def main():
     print(len(made['samples/shift.lines'].splitlines()), 'frames in samples/shift.fields')
 
 
-main()
+if __name__ == '__main__':
+    main()

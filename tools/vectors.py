@@ -234,4 +234,5 @@ def main():
     print(f'{len(lines)} vectors, {len(made["vectors/stdin"])} bytes of fields')
 
 
-main()
+if __name__ == '__main__':
+    main()

@@ -1,224 +1,41 @@
-// Document 01's cases, run through the public functions, as far as they can be run: a line each, compared with `stdout`. The frames are
-// those of a logger with address 0x0011223344556677 and key 0x40 to 0x4F, made with OpenSSL's CCM (header 08 02 00 00 34 12 1E 01,
-// payload the letter T, or none); the program that made them is not in the repository. `stdout` was set down from document 01's table
-// before the first run, but for the hash, which OpenSSL's AES computed. P4 and P6 are proved (crate `order`) and not run here.
-use answer::Answer;
+// Document 01's cases, run through the public functions: a line each, compared with `stdout`. P4's paddings are seen by the hashes of
+// messages of those lengths. `stdin` holds the frames one after the other, all of 27 bytes but the last: those of a logger with address
+// 0x0011223344556677 under the key 0x40 to 0x4F. tools/cases.py made both files, over OpenSSL's AES and CCM.
+use aib::PairRow;
+use aib::Pairs;
+use aps::Aps;
 use frame::Control;
 use frame::KeyIdentifier;
+use libc::STDIN_FILENO;
 use libc::STDOUT_FILENO;
 use nib::NetworkKey;
 use nib::NetworkKeys;
 use nib::Outgoing;
 use nwk::Nwk;
 
-const COUNTER_4: [u8; 27] = [
-    0x08,
-    0x02,
-    0x00,
-    0x00,
-    0x34,
-    0x12,
-    0x1e,
-    0x01,
-    0x28,
-    0x04,
-    0x00,
-    0x00,
-    0x00,
-    0x77,
-    0x66,
-    0x55,
+const LOGGER: u64 = 0x0011223344556677;
+
+const LOGGER_KEY: [u8; 16] = [
+    0x40,
+    0x41,
+    0x42,
+    0x43,
     0x44,
-    0x33,
-    0x22,
-    0x11,
-    0x00,
-    0x07,
-    0xa8,
-    0xd2,
-    0x2d,
     0x45,
+    0x46,
+    0x47,
+    0x48,
+    0x49,
+    0x4a,
     0x4b,
+    0x4c,
+    0x4d,
+    0x4e,
+    0x4f,
 ];
 
-const COUNTER_5: [u8; 27] = [
-    0x08,
-    0x02,
-    0x00,
-    0x00,
-    0x34,
-    0x12,
-    0x1e,
-    0x01,
-    0x28,
-    0x05,
-    0x00,
-    0x00,
-    0x00,
-    0x77,
-    0x66,
-    0x55,
-    0x44,
-    0x33,
-    0x22,
-    0x11,
-    0x00,
-    0x07,
-    0xe7,
-    0xba,
-    0xc3,
-    0x17,
-    0x36,
-];
-
-const COUNTER_6: [u8; 27] = [
-    0x08,
-    0x02,
-    0x00,
-    0x00,
-    0x34,
-    0x12,
-    0x1e,
-    0x01,
-    0x28,
-    0x06,
-    0x00,
-    0x00,
-    0x00,
-    0x77,
-    0x66,
-    0x55,
-    0x44,
-    0x33,
-    0x22,
-    0x11,
-    0x00,
-    0x07,
-    0x37,
-    0x85,
-    0xc1,
-    0xbb,
-    0xad,
-];
-
-const COUNTER_0: [u8; 27] = [
-    0x08,
-    0x02,
-    0x00,
-    0x00,
-    0x34,
-    0x12,
-    0x1e,
-    0x01,
-    0x28,
-    0x00,
-    0x00,
-    0x00,
-    0x00,
-    0x77,
-    0x66,
-    0x55,
-    0x44,
-    0x33,
-    0x22,
-    0x11,
-    0x00,
-    0x07,
-    0x38,
-    0x31,
-    0x8a,
-    0xa3,
-    0x82,
-];
-
-const UNDER_0: [u8; 27] = [
-    0x08,
-    0x02,
-    0x00,
-    0x00,
-    0x34,
-    0x12,
-    0x1e,
-    0x01,
-    0x28,
-    0x06,
-    0x00,
-    0x00,
-    0x00,
-    0x77,
-    0x66,
-    0x55,
-    0x44,
-    0x33,
-    0x22,
-    0x11,
-    0x00,
-    0x00,
-    0x37,
-    0xd3,
-    0x20,
-    0xd3,
-    0xab,
-];
-
-const UNDER_9: [u8; 27] = [
-    0x08,
-    0x02,
-    0x00,
-    0x00,
-    0x34,
-    0x12,
-    0x1e,
-    0x01,
-    0x28,
-    0x06,
-    0x00,
-    0x00,
-    0x00,
-    0x77,
-    0x66,
-    0x55,
-    0x44,
-    0x33,
-    0x22,
-    0x11,
-    0x00,
-    0x09,
-    0x37,
-    0x11,
-    0xb3,
-    0x70,
-    0x13,
-];
-
-const EMPTY: [u8; 26] = [
-    0x08,
-    0x02,
-    0x00,
-    0x00,
-    0x34,
-    0x12,
-    0x1e,
-    0x01,
-    0x28,
-    0x06,
-    0x00,
-    0x00,
-    0x00,
-    0x77,
-    0x66,
-    0x55,
-    0x44,
-    0x33,
-    0x22,
-    0x11,
-    0x00,
-    0x07,
-    0xb9,
-    0xca,
-    0x92,
-    0x0f,
-];
+// How many bytes the frames have together.
+const ALL: usize = 215;
 
 fn text(s: &[u8]) {
     io::write_all(STDOUT_FILENO, s);
@@ -249,24 +66,7 @@ fn octets(s: &[u8]) {
 fn gateway(active: u8, key_number: u8) -> Nwk {
     let row = NetworkKey {
         number: key_number,
-        key: [
-            0x40,
-            0x41,
-            0x42,
-            0x43,
-            0x44,
-            0x45,
-            0x46,
-            0x47,
-            0x48,
-            0x49,
-            0x4a,
-            0x4b,
-            0x4c,
-            0x4d,
-            0x4e,
-            0x4f,
-        ],
+        key: LOGGER_KEY,
     };
     Nwk {
         level: 5,
@@ -285,7 +85,7 @@ fn opened(name: &[u8], nwk: Nwk, used: usize, held: u32, frame: &mut [u8]) {
     let keys = nwk.keys;
     let row = keys.rows[0];
     let mut numbers = [row.number; 4];
-    let mut senders = [0x0011223344556677u64; 4];
+    let mut senders = [LOGGER; 4];
     let mut counters = [held; 4];
     let after = nwk::open_nwk(nwk, &mut numbers, &mut senders, &mut counters, used, frame);
     let answer = after.answer;
@@ -310,47 +110,88 @@ fn controls() {
     octet(Control::sent(KeyIdentifier::Transport).byte);
     octet(Control::sent(KeyIdentifier::Load).byte);
     text(b"\nP3 nonce:");
-    let nonce = frame::nonce(0x0011223344556677, 5, Control { byte: 0x2d });
+    let nonce = frame::nonce(LOGGER, 5, Control { byte: 0x2d });
     octets(&nonce);
     text(b"\n");
 }
 
-fn openings() {
-    let mut four = COUNTER_4;
-    opened(b"P5 held 5, counter 4:", gateway(7, 7), 1, 5, &mut four);
-    let mut five = COUNTER_5;
-    opened(b"P5 held 5, counter 5:", gateway(7, 7), 1, 5, &mut five);
-    let mut zero = UNDER_0;
+fn paddings() {
+    let zeros = [0u8; 17];
+    hashed(b"P4 hash of 13 zero bytes:", &zeros[..13]);
+    hashed(b"P4 hash of 14 zero bytes:", &zeros[..14]);
+    hashed(b"P4 hash of 15 zero bytes:", &zeros[..15]);
+    hashed(b"P4 hash of 16 zero bytes:", &zeros[..16]);
+    hashed(b"P4 hash of 17 zero bytes:", &zeros);
+}
+
+// A device that is known, with nothing above 0 heard from it. Prints answer, start, length and the incoming counter.
+fn opened_aps(name: &[u8], frame: &mut [u8]) {
+    let row = PairRow {
+        device: LOGGER,
+        attribute: aib::VERIFIED,
+        key: LOGGER_KEY,
+        kind: aib::UNIQUE,
+        outgoing: 0,
+        incoming: 0,
+    };
+    let pairs = Pairs {
+        rows: [row; 16],
+        used: 1,
+    };
+    let after = aps::open_aps(Aps { level: 5, own: 0 }, pairs, frame);
+    let answer = after.answer;
+    let told = answer::told_of(answer);
+    let kept = after.pairs;
+    let first = kept.rows[0];
+    text(name);
+    number(told.number as u64);
+    number(told.start as u64);
+    number(told.len as u64);
+    number(first.incoming as u64);
+    text(b"\n");
+}
+
+fn old_counters(frames: [u8; ALL]) {
+    let mut four = frames;
+    opened(
+        b"P5 held 5, counter 4:",
+        gateway(7, 7),
+        1,
+        5,
+        &mut four[0..27],
+    );
+    let mut five = frames;
+    opened(
+        b"P5 held 5, counter 5:",
+        gateway(7, 7),
+        1,
+        5,
+        &mut five[27..54],
+    );
+    let mut zero = frames;
+    opened_aps(b"P6 APS known with held 0, counter 0:", &mut zero[54..81]);
+}
+
+fn turns(frames: [u8; ALL]) {
+    let mut wrapped = frames;
     opened(
         b"P7 active 255, opened under 0:",
         gateway(255, 0),
         0,
         0,
-        &mut zero,
+        &mut wrapped[81..108],
     );
-    let mut nine = UNDER_9;
+    let mut ninth = frames;
     opened(
         b"P8 active 7, opened under 9:",
         gateway(7, 9),
         0,
         0,
-        &mut nine,
-    );
-    let mut six = COUNTER_6;
-    opened(b"11 held 5, counter 6:", gateway(7, 7), 1, 5, &mut six);
-    let mut first = COUNTER_0;
-    opened(b"12 no row, counter 0:", gateway(7, 7), 0, 9, &mut first);
-    let mut empty = EMPTY;
-    opened(
-        b"13 four bytes after the headers:",
-        gateway(7, 7),
-        0,
-        0,
-        &mut empty,
+        &mut ninth[108..135],
     );
 }
 
-fn counters() {
+fn outgoing() {
     text(b"P9 reset at 0x80000000, 0x80000001:");
     number(nib::reset(Outgoing { next: 0x80000000 }).next as u64);
     number(nib::reset(Outgoing { next: 0x80000001 }).next as u64);
@@ -359,6 +200,33 @@ fn counters() {
     text(b"\nP10 NWK outgoing 2^32-1:");
     number(answer::outcome_number(outcome) as u64);
     text(b"\n");
+}
+
+fn openings(frames: [u8; ALL]) {
+    let mut six = frames;
+    opened(
+        b"11 held 5, counter 6:",
+        gateway(7, 7),
+        1,
+        5,
+        &mut six[135..162],
+    );
+    let mut first = frames;
+    opened(
+        b"12 no row, counter 0:",
+        gateway(7, 7),
+        0,
+        9,
+        &mut first[162..189],
+    );
+    let mut empty = frames;
+    opened(
+        b"13 four bytes after the headers:",
+        gateway(7, 7),
+        0,
+        0,
+        &mut empty[189..215],
+    );
 }
 
 fn hashed(name: &[u8], message: &[u8]) {
@@ -372,9 +240,14 @@ fn hashed(name: &[u8], message: &[u8]) {
 }
 
 fn main() {
+    let mut frames = [0u8; ALL];
+    io::read_full(STDIN_FILENO, &mut frames);
     controls();
-    openings();
-    counters();
+    paddings();
+    old_counters(frames);
+    turns(frames);
+    outgoing();
+    openings(frames);
     let long = [0u8; 8192];
     hashed(b"14 hash of 8,191 zero bytes:", &long[..8191]);
     hashed(b"14 hash of 8,192 zero bytes:", &long);
