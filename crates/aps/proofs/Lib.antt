@@ -3,4 +3,3 @@ pub mod SendingLaws
 pub mod LayoutLaws
 pub mod RoundAps
 pub mod Refusals
-pub mod Once
