@@ -13,7 +13,7 @@ use Rattle.aib.specs.declared.counters.Advanced.{Advanced}
 use Rattle.aib.specs.declared.counters.Recorded.{Recorded}
 use Rattle.aib.specs.declared.pairs.PairRow.{PairRow}
 use Rattle.aib.specs.declared.pairs.Pairs.{Pairs}
-use Rattle.aib.specs.First.{first, atFirst}
+use Rattle.cells.specs.First.{first, atFirst}
 use Rattle.aib.specs.Pairs.{Pair, pairRows, newPair, mayUse}
 
 abbrev pub inUse : Pairs → List PairRow

@@ -1,5 +1,3 @@
-pub mod First
-pub mod FirstLaws
 pub mod Pairs
 pub mod Counters
 pub mod PairLaws

@@ -1,13 +1,13 @@
 -- What is found, and what advance and record leave, by the place that a search yields. Assumes nothing.
-use mathlib.Core.Path.{_≡_, refl, sym, ap, _∙_}
-use mathlib.Core.Bool.{Bool, true, false, cond}
-use mathlib.Core.List.{List, [], _∷_, _++_}
+use mathlib.Core.Path.{_≡_, sym, ap, _∙_}
+use mathlib.Core.Bool.{Bool, true, false}
+use mathlib.Core.List.{List, _++_}
 use mathlib.Core.Option.{some}
 use Prim.Native.Nat.{ℕ, suc, _+_, _≤_, _<_, min}
 use native.Mathlib.Omega.{arith}
 use native.Mathlib.Numerals.{add-one}
 use native.Mathlib.Decide.{decLe}
-use lib.Dec.{eqb, ltb}
+use lib.Dec.{ltb}
 use lib.ListN.{length, take, drop, getD, set, length-set, take-append-drop}
 use lib.Seq.{take-all, length-take-le, drop-set-lt}
 use borrow.Author.Tests.{lt-ltb, le-ltb, eq-eqb, ne-eqb, eqb-true}
@@ -17,16 +17,10 @@ use Rattle.cells.specs.Rows.{isRow, put, placeOf, find, room}
 use Rattle.cells.specs.Search.{lent-le, lent-row, lent-cell, lent-put}
 use Rattle.aib.specs.declared.pairs.PairRow.{PairRow}
 use Rattle.aib.specs.declared.pairs.Pairs.{Pairs}
-use Rattle.aib.specs.First.{firstWhere}
-use Rattle.aib.specs.FirstLaws as laws
+use Rattle.cells.specs.First.{firstWhere}
+use Rattle.cells.specs.FirstLaws as laws
 use Rattle.aib.specs.Pairs.{pairRows, rowOf, pairOf, newRow, nothing, mayUse, pairFound, usableFound}
 use Rattle.aib.specs.Counters.{inUse, raised, notAdvanced, advanced, heard, notRecorded, recorded}
-
--- the place of a device's first row is that of the first row that passes the test for it
-placed : (rs : List PairRow) (d : ℕ) → placeOf pairRows rs d ≡ firstWhere (isRow pairRows d) rs
-unfolding placeOf firstWhere
-placed [] d = refl
-placed (r ∷ rs) d = ap (λ (n : ℕ). cond (isRow pairRows d r) 0 (suc n)) (placed rs d)
 
 -- ---- searches
 
@@ -59,10 +53,7 @@ module _ (pairs : Pairs) (d : ℕ) (past : PairRow) (sixteen : length (pairs .ro
   unfolding pairFound
   found h =
       let r = getD (pairs .rows) found-at past in
-      let p = placed (take some-used (pairs .rows)) d in
-      let e : r .device ≡ d =
-      eqb-true (r .device) d
-      (ap (λ (n : ℕ). eqb ((getD (pairs .rows) n past) .device) d) p ∙ laws.passes-used (isRow pairRows d) (pairs .rows) some-used past some-fits (omega (arith, p))) in
+      let e : r .device ≡ d = eqb-true (r .device) d (laws.passes-used (isRow pairRows d) (pairs .rows) some-used past some-fits h) in
       rw (in-use, lent-cell pairRows (pairs .rows) some-used d past some-fits, lt-ltb found-at some-used h)
       (λ i. record { found = true; row = rowOf (e i) (pairOf r) })
 
@@ -180,10 +171,7 @@ module _ (pairs : Pairs) (d : ℕ) where
           → record { outcome = Done; pairs = record { rows = set (pairs .rows) heard-at (updated known c); used = pairs .used } } ≡ recorded pairs d c
       unfolding recorded roomy
       recorded-old h =
-          let p = placed (inUse pairs) d in
-          let q : known .device ≡ d =
-          eqb-true (known .device) d
-          (ap (λ (n : ℕ). eqb ((getD (pairs .rows) n past) .device) d) p ∙ laws.passes-used (isRow pairRows d) (pairs .rows) (pairs .used) past fits (omega (arith, p))) in
+          let q : known .device ≡ d = eqb-true (known .device) d (laws.passes-used (isRow pairRows d) (pairs .rows) (pairs .used) past fits h) in
           let e : put pairRows (inUse pairs) d (heard (find pairRows (inUse pairs) d) c) ≡ take (pairs .used) (set (pairs .rows) heard-at (rowOf d (heard (some (pairOf known)) c))) =
           lent-put pairRows (pairs .rows) (pairs .used) d past fits (heard (find pairRows (inUse pairs) d) c) (omega arith)
           ∙ rw (lent-cell pairRows (pairs .rows) (pairs .used) d past fits, lt-ltb heard-at (pairs .used) h) in

@@ -11,7 +11,7 @@ use Rattle.cells.specs.Rows.{Rows, find}
 use Rattle.aib.specs.declared.pairs.PairRow.{PairRow}
 use Rattle.aib.specs.declared.pairs.Pairs.{Pairs}
 use Rattle.aib.specs.declared.search.PairFound.{PairFound}
-use Rattle.aib.specs.First.{first}
+use Rattle.cells.specs.First.{first}
 
 -- key attributes and link key types
 abbrev pub provisional : ℕ

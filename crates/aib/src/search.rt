@@ -3,7 +3,7 @@ ghost use mathlib.Core.Path.{_≡_};
 ghost use Prim.Native.Nat.{_≤_, min};
 ghost use lib.ListN.{take};
 ghost use Rattle.cells.specs.Rows.{placeOf};
-ghost use Rattle.aib.specs.First.{firstWhere};
+ghost use Rattle.cells.specs.First.{firstWhere};
 ghost use Rattle.aib.specs.Pairs.{nothing, pairRows, mayUse, pairFound, usableFound};
 use crate::pairs::PairRow;
 use crate::pairs::Pairs;

@@ -14,7 +14,7 @@ use Rattle.answer.specs.Numbers.{told}
 use Rattle.cells.specs.Rows.{find, room}
 use Rattle.aib.specs.declared.pairs.PairRow.{PairRow}
 use Rattle.aib.specs.declared.pairs.Pairs.{Pairs}
-use Rattle.aib.specs.First.{first}
+use Rattle.cells.specs.First.{first}
 use Rattle.aib.specs.Pairs.{Pair, pairRows, mayUse}
 use Rattle.aib.specs.Counters.{inUse}
 use Rattle.protection.specs.declared.claims.Claim.{Claim}

@@ -16,7 +16,7 @@ use Rattle.answer.specs.declared.Refusal.the-variants.{Unsupported, Cut, NoPair
 use Rattle.aib.specs.declared.pairs.PairRow.{PairRow}
 use Rattle.aib.specs.declared.pairs.Pairs.{Pairs}
 use Rattle.aib.specs.declared.search.PairFound.{PairFound}
-use Rattle.aib.specs.First.{first, atFirst}
+use Rattle.cells.specs.First.{first, atFirst}
 use Rattle.aib.specs.Pairs.{mayUse, answeredRow, usableFound}
 use Rattle.aib.specs.Counters.{inUse, holding, raised, advanced}
 use Rattle.frame.specs.Control.{hasNumber, sent}

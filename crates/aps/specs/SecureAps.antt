@@ -11,7 +11,7 @@ use Rattle.answer.specs.declared.Refusal.{Refusal}
 use Rattle.answer.specs.declared.Refusal.the-variants.{Unsupported, Cut, NoPair, CounterSpent, SenderAbsent, NoRoom}
 use Rattle.aib.specs.declared.pairs.PairRow.{PairRow}
 use Rattle.aib.specs.declared.pairs.Pairs.{Pairs}
-use Rattle.aib.specs.First.{first, atFirst}
+use Rattle.cells.specs.First.{first, atFirst}
 use Rattle.aib.specs.Pairs.{mayUse}
 use Rattle.aib.specs.Counters.{inUse, holding, raised}
 use Rattle.frame.specs.Control.{sent}

@@ -1,6 +1,8 @@
 -- The definitions, and beside each the laws about it, in reading order.
 pub mod Lists
 pub mod ListLaws
+pub mod First
+pub mod FirstLaws
 pub mod Rows
 pub mod RowLaws
 pub mod Search

@@ -4,10 +4,11 @@ use mathlib.Core.Path.{_≡_}
 use mathlib.Core.Bool.{Bool, true, cond, _||_}
 use mathlib.Core.Option.{Option, none, some}
 use mathlib.Core.List.{List, [], _∷_}
-use Prim.Native.Nat.{ℕ, suc}
+use Prim.Native.Nat.{ℕ}
 use lib.ListN.{length}
 use lib.Dec.{ltb}
 use Rattle.cells.specs.Lists.{any}
+use Rattle.cells.specs.First.{firstWhere}
 
 -- How a row shows its key and its cell, and how it is made of them. The cell is all that the row holds but its key.
 -- `same` is the test for equal keys.
@@ -52,9 +53,8 @@ module _ {R K C : Type 0} (rows : Rows R K C) where
   put (r ∷ rs) k c = cond (isRow k r) (rows .make k c ∷ rs) (r ∷ put rs k c)
 
   -- the place of the first row whose key is k, or the number of rows: what a loop over the rows yields
-  unfoldable pub placeOf : List R → K → ℕ
-  placeOf [] k = 0
-  placeOf (r ∷ rs) k = cond (isRow k r) 0 (suc (placeOf rs k))
+  abbrev pub placeOf : List R → K → ℕ
+  placeOf rs k = firstWhere (isRow k) rs
 
   -- k has a row, or one of the places is free
   unfoldable pub room : (places : ℕ) → List R → K → Bool

@@ -15,7 +15,7 @@ use Rattle.cells.specs.Rows.{find}
 use Rattle.aib.specs.declared.pairs.PairRow.{PairRow}
 use Rattle.aib.specs.declared.pairs.Pairs.{Pairs}
 use Rattle.aib.specs.Counters.{inUse}
-use Rattle.aib.specs.First.{first}
+use Rattle.cells.specs.First.{first}
 use Rattle.aib.specs.Pairs.{Pair, pairRows, mayUse}
 use Rattle.frame.specs.declared.control.KeyIdentifier.{KeyIdentifier}
 use Rattle.header.specs.Aps.{apsTaken, apsLength, isCommand, isSecured}

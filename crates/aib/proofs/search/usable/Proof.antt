@@ -5,7 +5,7 @@ use borrow.Author.Needs.{needs}
 use mathlib.Core.Bool.{true}
 use mathlib.Core.Path.{_≡_, sym, ap, _∙_}
 use lib.ListN.{take, getD}
-use Rattle.aib.specs.First.{firstWhere}
+use Rattle.cells.specs.First.{firstWhere}
 use Rattle.aib.specs.Pairs.{mayUse}
 use Rattle.aib.specs.PairLaws.{usable-at, usable-le, not-usable, usable}
 use Rattle.aib.proofs.Rows.{sixteen, past}

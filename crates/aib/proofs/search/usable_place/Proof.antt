@@ -7,7 +7,7 @@ use mathlib.Core.Path.{_≡_, ap, _∙_, subst}
 use lib.Dec.{eqb}
 use lib.ListN.{length, getD}
 use borrow.Author.Tests.{eq-eqb, ne-eqb, le-leb, lt-leb}
-use Rattle.aib.specs.FirstLaws.{Passed, start, at-end, hit, miss}
+use Rattle.cells.specs.FirstLaws.{Passed, start, at-end, hit, miss}
 use Rattle.aib.specs.Pairs.{mayUse}
 use Rattle.aib.proofs.Rows.{sixteen, past}
 use Rattle.aib.proofs.search.usable_place.Statement.{statement}
