@@ -2,4 +2,3 @@ pub mod OpeningLaws
 pub mod SendingLaws
 pub mod LayoutLaws
 pub mod RoundAps
-pub mod Refusals
