@@ -23,7 +23,7 @@ LOGGERS = {'retort 1': (0x00124B0001A0B101, 0x1001), 'retort 2': (0x00124B0001A0
 
 # document 01's answer numbers, by reason
 DONE, PLAIN, CUT, WRONG_TAG, NO_KEY = 0, 1, 2, 5, 4
-REPEATED, BEHIND, PAIR_REPEATED, PAIR_BEHIND = 3, 3, 4, 4
+REPEATED, BEHIND, PAIR_REPEATED = 3, 3, 4
 
 
 def field(tag, body):
