@@ -5,10 +5,8 @@ pub use native.Mathlib.Omega.{arith}
 pub use mathlib.Core.Path.{_∙_, _≡_, ap, refl, subst, sym}
 pub use mathlib.Core.Bool.{Bool, false, not, true}
 pub use mathlib.Core.List.{List, [], _∷_, map, _++_}
-pub use mathlib.Core.WellFounded.{InvImage·wf, WellFounded}
 pub use lib.Dec.{T-not, eqb, eqb-refl, eqb→eq, lit<, ltb, nltb→le, T}
 pub use lib.ListN.{getD, length, length-map, length-set, set, take}
-pub use lib.WfN.{Nat·lt-wfRel}
 pub use borrow.Author.Tests.{ltb-false, ltb-true}
 -- the code and its values
 pub use mir.Syntax.{Ty, erased, imm, loop, mut, named, tyArray, tyBool, tyInt, tyPtr, tyRef, tyUnit, w32, w64, w8}
@@ -45,7 +43,7 @@ pub use denote.RattleType.{RattleType, owns}
 pub use denote.Ref.{MutRef, RefT, mut-tells, ptr-vals}
 pub use denote.Shadow.{pureI, shadow}
 pub use denote.Signature.{plain}
-pub use denote.Slice.{MutSlice, Room, ShrSlice, at-slice, codedHoleys, heres, mut-slice-tells, shr-slice-tells, slice-vals, sliceTy, sliceVal}
+pub use denote.Slice.{MutSlice, Room, ShrSlice, at-slice, codedHoleys, heres, mut-slice-tells, shr-slice-tells, shr-slice-copy, slice-vals, sliceTy, sliceVal}
 pub use denote.Steps.{closes, heard, nothing, only, opens, owned, peeks}
 pub use denote.Struct.Field.{Field}
 pub use denote.Struct.Steps.{spelt}
@@ -61,7 +59,7 @@ unfoldable pub use contract.Running.{tablesOf}
 unfoldable pub use prog.Wp.{afterTurn}
 -- this crate's
 pub use Rattle.walks.specs.Tests.{holds, fails, holds-not, not-equal, not-at}
-pub use Rattle.walks.specs.Turn.{after}
+pub use Rattle.walks.specs.Turn.{after, Nearer, nearer-wf}
 pub use Rattle.walks.specs.Locals.{empty, full, Local, stack, places, leave, number}
-pub use Rattle.walks.specs.Calls.{answers, tells}
+pub use Rattle.walks.specs.Calls.{answers, tells, gives}
 pub use Rattle.walks.specs.Conclude.{concludes}
