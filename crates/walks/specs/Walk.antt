@@ -26,7 +26,7 @@ pub use contract.Monad.{Fun, fact}
 pub use contract.Running.{givenOf, tables, GhostRules, Running}
 -- steps
 pub use types.Kit.{ !, Given, Item, Sq, _$_, _∵_, _⊛_, anyQ, atRet, await, by, done, drop, feqI, feqL, fjoin, fjoin3, frame, frees, fsplit, fsplit3, given, join, keep, later, learn, move, pick, prop, qed, raw, rewrite, runs, some, split, suffices, use0, use1, use2, use3, ‵, ⋆, Goal}
-pub use types.Run.{Below, addr, again, alloc0, alloc1, and-then, assigns, assigns-last, bin, blocks, branches, enter, exec, first, fld, forget, free0, free1, from, hop, init, jumps, land, lit, load, look, look-raw, loops, neg-lit, no-more, of-opd, params1, pass0, pass1, returns, returns-within, skips, stop, store, store-raw, unit-lit}
+pub use types.Run.{Below, addr, again, alloc0, alloc1, and-then, assigns, assigns-last, bin, blocks, branches, enter, exec, first, fld, forget, free0, free1, from, hop, init, jumps, land, lit, load, look, look-raw, loops, neg-lit, no-more, of-opd, params1, pass0, pass1, returns, returns-within, skips, stop, store, store-raw, true-lit, false-lit, unit-lit}
 pub use types.Part.{agg, look-in, store-in, sub, whole}
 pub use types.SemTy.{Body}
 pub use types.Share.{arr-parts}
