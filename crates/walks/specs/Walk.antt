@@ -63,3 +63,4 @@ pub use Rattle.walks.specs.Turn.{after, Nearer, nearer-wf}
 pub use Rattle.walks.specs.Locals.{empty, full, Local, stack, places, leave, number}
 pub use Rattle.walks.specs.Calls.{answers, tells, gives}
 pub use Rattle.walks.specs.Conclude.{concludes}
+pub use Rattle.walks.specs.Slices.{opens-own, closes-own, looks-own, shuts-own}

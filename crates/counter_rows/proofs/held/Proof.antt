@@ -3,11 +3,10 @@
 use denote.Struct.Laws as LL
 use denote.Enum.Laws as LE
 use mathlib.Core.Option.{Option, none, some}
-use Rattle.walks.specs.Walk.{ !, AllGo, Atoms, Calls, Contract, Env, Fml, FmC, Fun, GName, Given, Heap, Is, Item, Lft, List, Local, Loops, Memory, RefT, Room, Routine, SProp, Share, ShrSlice, Sq, Stays, T, Tables, Triple, URA, Val, Walks, WT, WpFn, [], _$_, _*_, _+_, _++_, _-_, _<_, _^_, _∙_, _∵_, _≡_, _≤_, _⊛_, _∷_, agg, alloc0, alloc1, and-then, arith, arr-parts, assigns, at-slice, atRet, bin, branches, by, cited, codedHoleys, concludes, done, drop, elem-back, elem-out, emp, ends-at, ent, enter, eqb, eqb→eq, exec, false-lit, false, fat, first, fjoin, fld, flft, fmOf, frame, from, fres, fshr-bor, fsplit, fst∗, ftrue, fullShare, getD, hasTy, gives, givenOf, goes-none, goes-none-slice, heres, hop, holds, id⊢, imm, init, join, keep, land, leave, length, lit, load, look, look-in, look-raw, looks-slice, ltb, ltb-true, move, named, nltb→le, no-more, not, not-at, nothing, of-opd, only, onEntry, owned, owns, params1, pass0, pass1, place-is, places, plain, prop, qed, raw, refl, returns, returns-within, rewrite, runs, says, shares, shows, shr-slice-copy, shr-slice-tells, shuts-slice, skips, slice-vals, sliceVal, split, stack, stay-none, stay-none-slice, stop, store, sub, suffices, sym, tables, tablesOf, take, true-lit, true, tyBool, tyInt, tyPtr, u64, u8, uint-tells, uint-vals, use0, use1, use2, usize, via, vint, vptr, w64, w8, walkOf, walked, whole, yes, ‵, ℕ}
+use Rattle.walks.specs.Walk.{!, AllGo, Atoms, Calls, Env, Fml, FmC, Fun, GName, Given, Heap, Is, Item, Lft, List, Local, Loops, Memory, RefT, Room, Routine, SProp, Share, ShrSlice, Sq, Stays, T, Tables, Triple, URA, Val, Walks, WT, WpFn, [], _$_, _*_, _++_, _<_, _^_, _∵_, _≡_, _≤_, _⊛_, _∷_, agg, alloc0, alloc1, and-then, arith, assigns, atRet, bin, branches, cited, concludes, done, drop, elem-back, elem-out, emp, ends-at, ent, enter, eqb→eq, exec, false-lit, false, fat, first, fjoin, fld, flft, fmOf, frame, from, fsplit, fst∗, ftrue, fullShare, getD, hasTy, gives, givenOf, goes-none, goes-none-slice, hop, holds, id⊢, imm, init, join, land, leave, length, lit, load, look, look-in, look-raw, looks-own, ltb, ltb-true, move, named, nltb→le, no-more, not-at, nothing, of-opd, only, onEntry, owned, owns, params1, pass0, pass1, place-is, places, plain, prop, qed, raw, refl, returns, returns-within, rewrite, runs, says, shows, shr-slice-copy, shr-slice-tells, shuts-own, skips, slice-vals, sliceVal, split, stack, stay-none, stay-none-slice, stop, store, sub, suffices, sym, tables, tablesOf, true-lit, true, tyBool, tyInt, tyPtr, u64, u8, uint-tells, uint-vals, use0, use1, use2, usize, via, vint, vptr, w64, w8, walkOf, walked, whole, yes, ‵, ℕ}
 use Rattle.nib.specs.Counters.{pair, capacity, empty, heldFor}
 use Rattle.nib.specs.CounterLaws.{at as placed, at-le, held-over, held-none, held-row}
 use Rattle.nib.specs.declared.counters.CounterRow.{CounterRow}
-use Rattle.nib.specs.declared.counters.Known.{Known}
 use Rattle.nib.specs.declared.counters.Known.the-variants.{Nothing, Counter}
 use Rattle.nib.specs.declared.counters.Standing.{Standing}
 use Rattle.nib.proofs.counters.CounterRow as T
@@ -150,15 +149,12 @@ module _ {M : Type 1} (𝓤 : URA M) (H : Heap 𝓤) (A : Atoms 𝓤) (W : Given
         assigns ! (bin ! (load ! (from ! (stop !)) (look ! 21 refl)) (lit ! tt) (record { fits = bytes })) (from ! (stop !)) (store ! 17 refl (tt, record { fits = bytes })) $
         assigns ! (bin ! (load ! (from ! (fld ! refl (stop !))) (look-in ! 31 (sub ! 0 refl (whole !)))) (load ! (from ! (stop !)) (look ! 17 refl)) tt) (from ! (stop !)) (init ! 7 refl (tt, tt)) $
         rewrite ! 7 (λ (m : ℕ). ‵ (fat fullShare tyPtr l₁₃ 0 (vptr b m))) (sym (place-is 24 o Place)) refl $
-        fsplit ! $ move ! (1 ∷ []) $ fsplit ! $ move ! (1 ∷ 3 ∷ []) $
-        looks-slice ! tt T.the-row (Is T.the-row) (shows 𝓤 H A T.the-row) (LL.vals T.the-type T′.the-laws) (LL.tells T.the-type T′.the-laws) (LL.copy T.the-type T′.the-copy 𝓤 H A W) ys b o (λ q′.
-        -- [the rows; what shuts; the fractured borrow; res; the fact; the numbers'; _15; …]
+        looks-own ! tt T.the-row b o ys (Is T.the-row) (shows 𝓤 H A T.the-row) (LL.vals T.the-type T′.the-laws) (LL.tells T.the-type T′.the-laws) (LL.copy T.the-type T′.the-copy 𝓤 H A W) (λ q′.
+        -- [the rows; what shuts; what the slice owns; the numbers'; _15; …]
         elem-out ! T.the-row (Is T.the-row) (shows 𝓤 H A T.the-row) (LL.vals T.the-type T′.the-laws) (LL.tells T.the-type T′.the-laws) q′ ys Place empty b o within (λ is₂.
         let its-counter : its .counter < 2 ^ 32 = LL.owed T.the-type T′.the-laws its _ is₂ .1 .1 .0 .1 in
-        assigns ! (of-opd ! (load ! (from ! (hop ! (look ! 12 refl) (stop !))) (look-raw ! 0 refl))) (from ! (stop !)) (init ! 10 refl (LL.lawful T.the-type T′.the-laws 𝓤 H A W .typed its _ is₂ .0)) $
-        elem-back ! T.the-row q′ ys Place empty (LL.vals T.the-type T′.the-laws its) b o within $ shuts-slice ! tt T.the-row q′ ys b o $
-        -- [the token; the fractured borrow; res; the fact; the numbers'; _15; …]
-        move ! (2 ∷ 1 ∷ []) $ fjoin ! $ move ! (2 ∷ 0 ∷ []) $ fjoin ! $
+        assigns ! (of-opd ! (load ! (from ! (hop ! (look ! 10 refl) (stop !))) (look-raw ! 0 refl))) (from ! (stop !)) (init ! 8 refl (LL.lawful T.the-type T′.the-laws 𝓤 H A W .typed its _ is₂ .0)) $
+        elem-back ! T.the-row q′ ys Place empty (LL.vals T.the-type T′.the-laws its) b o within $ shuts-own ! tt T.the-row b o ys q′ $
         assigns ! (of-opd ! (load ! (from ! (stop !)) (look ! 5 refl))) (from ! (stop !)) (init ! 19 refl (LL.lawful T.the-type T′.the-laws 𝓤 H A W .typed its _ is₂ .0)) $
         assigns ! (agg ! (and-then ! (lit ! tt) (and-then ! (load ! (from ! (fld ! refl (stop !))) (look-in ! 19 (sub ! 2 refl (whole !)))) (no-more !)))) (from ! (stop !)) (init ! 3 refl (LE.lawful K.the-type K′.the-laws 𝓤 H A W tt .typed (Counter (its .counter)) _ (counter-is (its .counter) its-counter) .0)) $
         assigns ! (agg ! (and-then ! (true-lit !) (and-then ! (load ! (from ! (stop !)) (look ! 3 refl)) (no-more !)))) (from ! (stop !)) (init ! 33 refl (typed (there (its .counter)) (counter-is (its .counter) its-counter))) $

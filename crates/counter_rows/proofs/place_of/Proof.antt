@@ -6,7 +6,7 @@
 -- Assumes nothing.
 use denote.Struct.Laws as LL
 use mathlib.Core.Option.{Option, none, some}
-use Rattle.walks.specs.Walk.{ !, AllGo, Atoms, Below, Calls, Env, Fml, Fun, GName, Given, Heap, Is, Item, Lft, List, Local, Loops, Memory, Nearer, Out, RefT, Room, Routine, SProp, Share, ShrSlice, Sq, Stays, T, Tables, URA, Val, Walks, Wp, WpFn, [], _$_, _*_, _+_, _++_, _-_, _<_, _^_, _∙_, _∵_, _≡_, _≤_, _⊛_, _∷_, after, afterBlock, afterSeq, afterTurn, again, alloc0, alloc1, anyQ, arith, arr-parts, assigns, assigns-last, at-slice, atRet, atReturn, bin, blocks, branches, by, codedHoleys, concludes, done, drop, elem-back, elem-out, ends-at, ent, enter, eqb→eq, exec, fat, first, fjoin, fld, flft, fobor, forget, frame, fres, from, fshr-bor, fsplit, ftrue, fullShare, getD, givenOf, goes-none, goes-none-slice, heres, hop, imm, init, join, jumps, keep, leave, length, lit, lit<, load, look, look-in, look-raw, looks-slice, loop, loops, move, named, nearer-wf, needs, not-at, nothing, number, of-opd, onEntry, owns, params1, pass0, pass1, place-is, places, plain, prop, qed, refl, returns, rewrite, row, runs, says, shares, shows, shr-slice-tells, shuts-slice, skips, slice-vals, sliceVal, split, stack, stay-none, stay-none-slice, stop, store, sub, subst, suffices, sym, tables, tablesOf, take, tyBool, tyInt, tyPtr, u64, u8, uint-tells, uint-vals, usize, vint, vptr, w64, w8, walkOf, walked, whole, yes, ‵, ℕ}
+use Rattle.walks.specs.Walk.{!, AllGo, Atoms, Below, Calls, Env, Fml, Fun, GName, Given, Heap, Is, Item, Lft, List, Local, Loops, Memory, Nearer, Out, RefT, Room, Routine, SProp, Share, ShrSlice, Sq, Stays, T, Tables, URA, Val, Walks, Wp, WpFn, [], _$_, _*_, _+_, _++_, _-_, _<_, _^_, _∵_, _≡_, _≤_, _⊛_, _∷_, after, afterBlock, afterSeq, afterTurn, again, alloc0, alloc1, anyQ, arith, arr-parts, assigns, assigns-last, atRet, atReturn, bin, blocks, branches, concludes, done, drop, elem-back, elem-out, ends-at, ent, enter, eqb→eq, exec, fat, first, fjoin, fld, flft, fobor, forget, frame, from, fsplit, ftrue, fullShare, getD, givenOf, goes-none, goes-none-slice, hop, imm, init, join, jumps, leave, length, lit, lit<, load, look, look-in, look-raw, looks-own, loop, loops, move, named, nearer-wf, needs, not-at, nothing, number, of-opd, onEntry, owns, params1, pass0, pass1, place-is, places, plain, prop, qed, refl, returns, rewrite, row, runs, says, shares, shows, shr-slice-tells, shuts-own, skips, slice-vals, sliceVal, split, stack, stay-none, stay-none-slice, stop, store, sub, subst, suffices, sym, tables, tablesOf, take, tyBool, tyInt, tyPtr, u64, u8, uint-tells, uint-vals, usize, vint, vptr, w64, w8, walkOf, walked, whole, yes, ‵, ℕ}
 use Rattle.cells.specs.Rows.{placeOf}
 use Rattle.cells.specs.Search.{Passed, start, at-end, hit, miss}
 use Rattle.nib.specs.Counters.{counterRows, pair, empty}
@@ -80,23 +80,17 @@ module _ {M : Type 1} (𝓤 : URA M) (H : Heap 𝓤) (A : Atoms 𝓤) (W : Given
     abbrev En : Env 𝓤 H
     En = places (Locals none 0 none)
 
-    -- the rows, while they are looked into, and what the numbers own: 6 entries
+    -- the rows, while they are looked into, and what the slice and the numbers own: 4 entries
     abbrev Held : List (Item 𝓤)
-    Held = ‵ (row T.the-row q′ ys b o) ∷ ‵ (fobor κ q (arr-parts (shares T.the-row) (length ys) .part q′ ys b o)) ∷ ‵ (fshr-bor κ (λ t. arr-parts (shares T.the-row) (length ys) .part t ys b o))
-        ∷ ‵ (fres γ (codedHoleys T.the-row .code (heres T.the-row ys))) ∷ ‵ (at-slice T.the-row ref (sv ∷ [])) ∷ ‵ Rest ∷ []
+    Held = ‵ (row T.the-row q′ ys b o) ∷ ‵ (fobor κ q (arr-parts (shares T.the-row) (length ys) .part q′ ys b o)) ∷ ‵ Own ∷ ‵ Rest ∷ []
 
     abbrev At : Pos used n s ys → List (Item 𝓤)
     At p = Held ++ stack (Locals none (p .i) none) []
 
-    -- the rows, shut: 5 entries
-    abbrev Shut : List (Item 𝓤)
-    Shut = ‵ (flft κ q) ∷ ‵ (fshr-bor κ (λ t. arr-parts (shares T.the-row) (length ys) .part t ys b o)) ∷ ‵ (fres γ (codedHoleys T.the-row .code (heres T.the-row ys))) ∷ ‵ (at-slice T.the-row ref (sv ∷ [])) ∷ ‵ Rest ∷ []
-
     ends : (i r : ℕ) → r < 2 ^ 64 → r ≡ Place → Sq W (Held ++ stack (Locals none i (some (vint w64 r))) []) (runs C Λ En mir′.t-3 (atRet En Post))
     ends i r fits e =
-        assigns ! (of-opd ! (load ! (from ! (stop !)) (look ! 16 refl))) (from ! (stop !)) (init ! 30 refl (tt, record { fits = fits })) $
-        shuts-slice ! tt T.the-row q′ ys b o $ returns ! (look ! 29 refl) $ leave ! Shut (Locals (some (vint w64 r)) i (some (vint w64 r))) $
-        move ! (2 ∷ 1 ∷ []) $ fjoin ! $ move ! (2 ∷ 0 ∷ []) $ fjoin ! $ exits r fits e
+        assigns ! (of-opd ! (load ! (from ! (stop !)) (look ! 14 refl))) (from ! (stop !)) (init ! 28 refl (tt, record { fits = fits })) $
+        shuts-own ! tt T.the-row b o ys q′ $ returns ! (look ! 27 refl) $ leave ! (‵ Own ∷ ‵ (flft κ q) ∷ ‵ Rest ∷ []) (Locals (some (vint w64 r)) i (some (vint w64 r))) $ exits r fits e
 
     -- how many rows are ahead, and what is to hold where a turn ends
     abbrev ahead : Pos used n s ys → ℕ
@@ -112,42 +106,42 @@ module _ {M : Type 1} (𝓤 : URA M) (H : Heap 𝓤) (A : Atoms 𝓤) (W : Given
     unfolding afterTurn
     more p below gone =
         let fits : p .i + 1 < 2 ^ 64 = omega arith in
-        assigns-last ! (bin ! (load ! (from ! (stop !)) (look ! 20 refl)) (lit ! tt) (record { fits = fits })) (from ! (stop !)) (store ! 20 refl (tt, record { fits = fits })) $
+        assigns-last ! (bin ! (load ! (from ! (stop !)) (look ! 18 refl)) (lit ! tt) (record { fits = fits })) (from ! (stop !)) (store ! 18 refl (tt, record { fits = fits })) $
         again ! (Nearer ahead) At p (record { i = p .i + 1; within = omega arith; passed = gone }) (omega arith)
 
     turn : (p : Pos used n s ys) → Sq W (At p) (runs C Λ En mir′.turn-1 (anyQ (Turned p)))
     unfolding afterTurn
     turn p =
-        assigns ! (bin ! (load ! (from ! (stop !)) (look ! 20 refl)) (load ! (from ! (stop !)) (look ! 26 refl)) tt) (from ! (stop !)) (init ! 14 refl (tt, tt)) $
-        first ! $ branches ! (load ! (from ! (stop !)) (look ! 14 refl))
+        assigns ! (bin ! (load ! (from ! (stop !)) (look ! 18 refl)) (load ! (from ! (stop !)) (look ! 24 refl)) tt) (from ! (stop !)) (init ! 12 refl (tt, tt)) $
+        first ! $ branches ! (load ! (from ! (stop !)) (look ! 12 refl))
         -- `break used`
-        (λ e. assigns ! (of-opd ! (load ! (from ! (stop !)) (look ! 26 refl))) (from ! (stop !)) (init ! 16 refl (tt, record { fits = used-fits })) $ jumps ! $
-        exec ! C Λ En mir′.t-3 (atRet En Post) $ forget ! 14 refl $ ends (p .i) used used-fits (at-end counterRows (pair n s) used ys (subst (Passed counterRows (pair n s) used ys) (eqb→eq (p .i) used e) (p .passed))))
+        (λ e. assigns ! (of-opd ! (load ! (from ! (stop !)) (look ! 24 refl))) (from ! (stop !)) (init ! 14 refl (tt, record { fits = used-fits })) $ jumps ! $
+        exec ! C Λ En mir′.t-3 (atRet En Post) $ forget ! 12 refl $ ends (p .i) used used-fits (at-end counterRows (pair n s) used ys (subst (Passed counterRows (pair n s) used ys) (eqb→eq (p .i) used e) (p .passed))))
         -- row i is read
         (λ t. let below : p .i < used = not-at (p .i) used t (p .within) in
         let within : p .i < length ys = omega arith in
         let bytes : p .i * 24 < 2 ^ 64 = in-bytes (p .i) (length ys) (room .1) within in
         let its : CounterRow = getD ys (p .i) empty in
         skips ! $ exec ! C Λ En (after 2 mir′.turn-1) (anyQ (Turned p)) $
-        assigns ! (bin ! (load ! (from ! (stop !)) (look ! 20 refl)) (lit ! tt) (record { fits = bytes })) (from ! (stop !)) (init ! 12 refl (tt, record { fits = bytes })) $
-        assigns ! (bin ! (load ! (from ! (fld ! refl (stop !))) (look-in ! 28 (sub ! 0 refl (whole !)))) (load ! (from ! (stop !)) (look ! 12 refl)) tt) (from ! (stop !)) (init ! 10 refl (tt, tt)) $
-        rewrite ! 10 (λ (m : ℕ). ‵ (fat fullShare tyPtr l₁₀ 0 (vptr b m))) (sym (place-is 24 o (p .i))) refl $
+        assigns ! (bin ! (load ! (from ! (stop !)) (look ! 18 refl)) (lit ! tt) (record { fits = bytes })) (from ! (stop !)) (init ! 10 refl (tt, record { fits = bytes })) $
+        assigns ! (bin ! (load ! (from ! (fld ! refl (stop !))) (look-in ! 26 (sub ! 0 refl (whole !)))) (load ! (from ! (stop !)) (look ! 10 refl)) tt) (from ! (stop !)) (init ! 8 refl (tt, tt)) $
+        rewrite ! 8 (λ (m : ℕ). ‵ (fat fullShare tyPtr l₁₀ 0 (vptr b m))) (sym (place-is 24 o (p .i))) refl $
         elem-out ! T.the-row (Is T.the-row) (shows 𝓤 H A T.the-row) (LL.vals T.the-type T′.the-laws) (LL.tells T.the-type T′.the-laws) q′ ys (p .i) empty b o within (λ is.
-        -- [rows[i]; what it owns; the others; what shuts; the fractured borrow; res; the fact; the numbers'; _12; …]
-        assigns ! (of-opd ! (load ! (from ! (hop ! (look ! 12 refl) (stop !))) (look-raw ! 0 refl))) (from ! (stop !)) (init ! 10 refl (LL.lawful T.the-type T′.the-laws 𝓤 H A W .typed its _ is .0)) $
+        -- [rows[i]; what it owns; the others; what shuts; what the rows own; the numbers'; _12; …]
+        assigns ! (of-opd ! (load ! (from ! (hop ! (look ! 10 refl) (stop !))) (look-raw ! 0 refl))) (from ! (stop !)) (init ! 8 refl (LL.lawful T.the-type T′.the-laws 𝓤 H A W .typed its _ is .0)) $
         elem-back ! T.the-row q′ ys (p .i) empty (LL.vals T.the-type T′.the-laws its) b o within $
-        assigns ! (of-opd ! (load ! (from ! (stop !)) (look ! 8 refl))) (from ! (stop !)) (init ! 18 refl (LL.lawful T.the-type T′.the-laws 𝓤 H A W .typed its _ is .0)) $
-        assigns ! (bin ! (load ! (from ! (fld ! refl (stop !))) (look-in ! 18 (sub ! 0 refl (whole !)))) (load ! (from ! (stop !)) (look ! 24 refl)) tt) (from ! (stop !)) (store ! 14 refl (tt, tt)) $
-        first ! $ branches ! (load ! (from ! (stop !)) (look ! 14 refl))
-        (λ tn. assigns ! (bin ! (load ! (from ! (fld ! refl (stop !))) (look-in ! 18 (sub ! 1 refl (whole !)))) (load ! (from ! (stop !)) (look ! 22 refl)) tt) (from ! (stop !)) (init ! 6 refl (tt, tt)) $
-        branches ! (load ! (from ! (stop !)) (look ! 6 refl))
+        assigns ! (of-opd ! (load ! (from ! (stop !)) (look ! 6 refl))) (from ! (stop !)) (init ! 16 refl (LL.lawful T.the-type T′.the-laws 𝓤 H A W .typed its _ is .0)) $
+        assigns ! (bin ! (load ! (from ! (fld ! refl (stop !))) (look-in ! 16 (sub ! 0 refl (whole !)))) (load ! (from ! (stop !)) (look ! 22 refl)) tt) (from ! (stop !)) (store ! 12 refl (tt, tt)) $
+        first ! $ branches ! (load ! (from ! (stop !)) (look ! 12 refl))
+        (λ tn. assigns ! (bin ! (load ! (from ! (fld ! refl (stop !))) (look-in ! 16 (sub ! 1 refl (whole !)))) (load ! (from ! (stop !)) (look ! 20 refl)) tt) (from ! (stop !)) (init ! 4 refl (tt, tt)) $
+        branches ! (load ! (from ! (stop !)) (look ! 4 refl))
         -- `break i`
-        (λ ts. assigns ! (of-opd ! (load ! (from ! (stop !)) (look ! 20 refl))) (from ! (stop !)) (init ! 16 refl (tt, record { fits = omega arith })) $ jumps ! $
-        exec ! C Λ En mir′.t-3 (atRet En Post) $ forget ! 6 refl $ forget ! 8 refl $ forget ! 10 refl $ forget ! 12 refl $ forget ! 14 refl $ forget ! 18 refl $
+        (λ ts. assigns ! (of-opd ! (load ! (from ! (stop !)) (look ! 18 refl))) (from ! (stop !)) (init ! 14 refl (tt, record { fits = omega arith })) $ jumps ! $
+        exec ! C Λ En mir′.t-3 (atRet En Post) $ forget ! 4 refl $ forget ! 6 refl $ forget ! 8 refl $ forget ! 10 refl $ forget ! 12 refl $ forget ! 16 refl $
         ends (p .i) (p .i) (omega arith) (hit counterRows (pair n s) used ys (p .i) empty below in-use (p .passed) (its-row its n s tn ts)))
-        (λ ts. skips ! $ exec ! C Λ En (after 8 mir′.turn-1) (anyQ (Turned p)) $ forget ! 6 refl $ forget ! 8 refl $ forget ! 10 refl $ forget ! 12 refl $ forget ! 14 refl $ forget ! 18 refl $
+        (λ ts. skips ! $ exec ! C Λ En (after 8 mir′.turn-1) (anyQ (Turned p)) $ forget ! 4 refl $ forget ! 6 refl $ forget ! 8 refl $ forget ! 10 refl $ forget ! 12 refl $ forget ! 16 refl $
         more p below (miss counterRows (pair n s) used ys (p .i) empty below in-use (p .passed) (other-sender its n s ts))))
-        (λ tn. skips ! $ exec ! C Λ En (after 8 mir′.turn-1) (anyQ (Turned p)) $ forget ! 8 refl $ forget ! 10 refl $ forget ! 12 refl $ forget ! 14 refl $ forget ! 18 refl $
+        (λ tn. skips ! $ exec ! C Λ En (after 8 mir′.turn-1) (anyQ (Turned p)) $ forget ! 6 refl $ forget ! 8 refl $ forget ! 10 refl $ forget ! 12 refl $ forget ! 16 refl $
         more p below (miss counterRows (pair n s) used ys (p .i) empty below in-use (p .passed) (other-number its n s tn)))))
 
     looped : (p : Pos used n s ys) → Sq W (At p) (runs C Λ En (loop mir′.turn-1) (anyQ Left))
@@ -160,9 +154,8 @@ module _ {M : Type 1} (𝓤 : URA M) (H : Heap 𝓤) (A : Atoms 𝓤) (W : Given
       pass1 ! (init ! 22 refl (tt, (tt, (record { fits = room .0 }, tt)))) $ pass1 ! (init ! 20 refl (tt, record { fits = used-fits })) $ pass1 ! (init ! 18 refl (tt, record { fits = n-fits })) $ pass1 ! (init ! 16 refl (tt, record { fits = s-fits })) $ pass0 ! $
       assigns ! (of-opd ! (lit ! tt)) (from ! (stop !)) (init ! 14 refl (tt, record { fits = lit< tt })) $
       -- the rows are looked into
-      move ! (27 ∷ []) $ fsplit ! $ fsplit ! $ move ! (1 ∷ []) $ fsplit ! $ move ! (30 ∷ []) $ split ! $ move ! (3 ∷ 0 ∷ []) $
-      looks-slice ! tt T.the-row (Is T.the-row) (shows 𝓤 H A T.the-row) (LL.vals T.the-type T′.the-laws) (LL.tells T.the-type T′.the-laws) (LL.copy T.the-type T′.the-copy 𝓤 H A W) ys b o (λ q′.
-      move ! (3 ∷ []) $ drop ! $
+      move ! (27 ∷ []) $ fsplit ! $ move ! (28 ∷ []) $ split ! $ move ! (1 ∷ []) $ drop ! $ move ! (1 ∷ 0 ∷ []) $
+      looks-own ! tt T.the-row b o ys (Is T.the-row) (shows 𝓤 H A T.the-row) (LL.vals T.the-type T′.the-laws) (LL.tells T.the-type T′.the-laws) (LL.copy T.the-type T′.the-copy 𝓤 H A W) (λ q′.
       first ! $ blocks ! $ looped 𝓣 q′ l₀ l₁ l₂ l₃ l₄ l₅ l₆ l₇ l₈ l₉ l₁₀ l₁₁ l₁₂ (record { i = 0; within = omega arith; passed = start counterRows (pair n s) used ys })))))))))))))))
 
 module _ {M : Type 1} (𝓤 : URA M) (H : Heap 𝓤) (A : Atoms 𝓤) (W : Given 𝓤 H A) where
