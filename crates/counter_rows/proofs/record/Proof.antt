@@ -3,7 +3,7 @@
 use denote.Struct.Laws as LL
 use denote.Enum.Laws as LE
 use mathlib.Core.Option.{Option, none, some}
-use Rattle.walks.specs.Walk.{!, AllGo, Atoms, Calls, Env, Fml, FmC, Fun, GName, Given, Heap, Is, Item, Lft, List, Local, Loops, Memory, MutSlice, RefT, Room, Routine, SProp, Share, ShrSlice, Sq, Stays, T, Tables, Triple, URA, Val, Walks, WpFn, [], _$_, _*_, _+_, _++_, _<_, _^_, _∵_, _≡_, _≤_, _⊛_, _∷_, addr, agg, alloc0, alloc1, and-then, arith, assigns, atRet, await, bin, branches, cited, closes-own, concludes, done, drop, elem-out, elem-put, emp, ends-at, ent, enter, eqb→eq, erased, exec, fat, first, fjoin, fld, flft, fmOf, frame, from, fsplit, fst∗, ftrue, fullShare, gives, givenOf, goes-none, goes-slice, hop, holds, id⊢, imm, init, join, land, later, leave, length, length-set, lft-end, lft-new, lit, load, look, look-in, ltb, ltb-true, move, mut, mut-slice-tells, named, nltb→le, no-more, not-at, not-equal, nothing, of-opd, onEntry, opens-own, owned, owns, params1, pass0, pass1, pick, place-is, places, plain, prop, qed, raw, refl, returns, returns-within, rewrite, runs, says, set, shows, skips, slice-vals, sliceVal, split, stack, stay-none, stay-slice, stop, store, store-raw, sub, suffices, sym, tables, tablesOf, tyBool, tyInt, tyPtr, u32, u64, u8, uint-tells, uint-vals, use0, use1, use2, usize, via, vint, vptr, w32, w64, w8, walkOf, walked, whole, yes, ‵, ℕ}
+use Rattle.walks.specs.Walk.{ !, AllGo, Atoms, Calls, Env, Fml, FmC, Fun, GName, Given, Heap, Is, Item, Lft, List, Local, Loops, Memory, MutSlice, RefT, Room, Routine, SProp, Share, ShrSlice, Sq, Stays, T, Tables, Triple, URA, Val, Walks, WpFn, [], _$_, _*_, _+_, _++_, _<_, _^_, _∵_, _≡_, _≤_, _⊛_, _∷_, addr, agg, alloc0, alloc1, and-then, arith, assigns, atRet, await, bin, branches, cited, closes-own, concludes, done, drop, elem-out, elem-put, emp, ends-at, ent, enter, eqb→eq, erased, exec, fat, first, fjoin, fld, flft, fmOf, frame, from, fsplit, fst∗, ftrue, fullShare, gives, givenOf, goes-none, goes-slice, hop, holds, id⊢, imm, init, join, land, later, leave, length, length-set, lft-end, lft-new, lit, load, look, look-in, ltb, ltb-true, move, mut, mut-slice-tells, named, nltb→le, no-more, not-at, not-equal, nothing, of-opd, onEntry, opens-own, owned, owns, params1, pass0, pass1, pick, place-is, places, plain, prop, qed, raw, refl, returns, returns-within, rewrite, runs, says, set, shows, skips, slice-vals, sliceVal, split, stack, stay-none, stay-slice, stop, store, store-raw, sub, suffices, sym, tables, tablesOf, tyBool, tyInt, tyPtr, u32, u64, u8, uint-tells, uint-vals, use0, use1, use2, usize, via, vint, vptr, w32, w64, w8, walkOf, walked, whole, yes, ‵, ℕ}
 use Rattle.walks.specs.Shared.{LentShared, lends-shared, shared-back}
 use types.Kit.{some as some′}
 use Rattle.answer.specs.declared.Outcome.the-variants.{Done, Refused}
