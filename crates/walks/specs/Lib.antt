@@ -8,5 +8,5 @@ pub mod Slices
 pub mod Again
 pub mod Shared
 pub mod LocalArray
-pub mod Walk
 pub mod Lends
+pub mod Walk
