@@ -154,10 +154,9 @@ module _ {M : Type 1} (𝓤 : URA M) (H : Heap 𝓤) (A : Atoms 𝓤) (W : Given
         assigns ! (bin ! (load ! (from ! (stop !)) (look ! 29 refl)) (load ! (from ! (stop !)) (look ! 39 refl)) tt) (from ! (stop !)) (store ! 25 refl (tt, tt)) $
         first ! $ branches ! (load ! (from ! (stop !)) (look ! 25 refl))
         (λ v. let e : Place ≡ used = eqb→eq Place used v in
-        let fits : used + 1 < 2 ^ 64 = omega arith in
-        let is₄ = answer-is (finished (used + 1)) done-is fits in
+        let is₄ = answer-is (finished (used + 1)) done-is (omega arith) in
         assigns ! (agg ! (and-then ! (lit ! tt) (no-more !))) (from ! (stop !)) (init ! 7 refl (LE.lawful O.the-type O′.the-laws 𝓤 H A W tt .typed Done _ done-is .0)) $
-        assigns ! (bin ! (load ! (from ! (stop !)) (look ! 39 refl)) (lit ! tt) (record { fits = fits })) (from ! (stop !)) (init ! 5 refl (tt, record { fits = fits })) $
+        assigns ! (bin ! (load ! (from ! (stop !)) (look ! 39 refl)) (lit ! tt) (record { fits = omega arith })) (from ! (stop !)) (init ! 5 refl (tt, record { fits = omega arith })) $
         assigns ! (agg ! (and-then ! (load ! (from ! (stop !)) (look ! 7 refl)) (and-then ! (load ! (from ! (stop !)) (look ! 5 refl)) (no-more !)))) (from ! (stop !)) (init ! 43 refl (typed 𝓤 H A W (finished (used + 1)) is₄)) $
         returns-within ! Post refl (look ! 43 refl) $ leave ! (Front zs) (Locals (some _) (some _) (some _) (some _) (some _) none none (some _) (some _) none none (some _) (some _) (some _) (some _) none) $
         exits zs (finished (used + 1)) same is₄ (sym (recorded-new ys used (pair n s) few c e (omega arith))))
