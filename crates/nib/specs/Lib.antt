@@ -1,5 +1,6 @@
 pub mod Active
 pub mod Sending
+pub mod SendingLaws
 pub mod Keys
 pub mod KeyLaws
 pub mod Pairs
@@ -7,6 +8,4 @@ pub mod Counters
 pub mod CounterLaws
 pub mod Gaps
 pub mod Forgetting
-pub mod Lent
-pub mod LentLaws
 pub mod Cases
