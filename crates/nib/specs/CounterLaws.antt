@@ -15,9 +15,10 @@ use Rattle.answer.specs.declared.Refusal.the-variants.{Unsupported, TableFull}
 use Rattle.cells.specs.Rows.{put, placeOf, room}
 use Rattle.cells.specs.Search.{lent-le, lent-row, lent-cell, lent-put}
 use Rattle.nib.specs.declared.counters.CounterRow.{CounterRow}
+use Rattle.nib.specs.declared.counters.Recorded.{Recorded}
 use Rattle.nib.specs.declared.counters.Known.the-variants.{Nothing, Counter}
 use Rattle.nib.specs.Pairs.{Pair}
-use Rattle.nib.specs.Counters.{counterRows, capacity, overfull, heldFor, over, After, refused, recorded, empty}
+use Rattle.nib.specs.Counters.{counterRows, capacity, overfull, heldFor, over, After, left, refused, recorded, empty, kept, closed, forgotten}
 
 module _ (rows : List CounterRow) (used : ℕ) (k : Pair) where
   abbrev pub at : ℕ
@@ -100,6 +101,24 @@ module _ (rows : List CounterRow) (used : ℕ) (k : Pair) where
           let e : put counterRows (take used rows) k c ≡ take (suc used) (set rows at made) = lent-put counterRows rows used k empty in-use c (omega arith) ∙ rw t in
           let w = written (suc used) (omega arith) (omega arith) e in
           rw (not-over, with-none q, lt-ltb used (capacity (length rows)) h, w .0, w .1, add-one)
+
+-- ---- forgetting
+
+module _ (rows : List CounterRow) (used n : ℕ) where
+  pub forgotten-over : capacity (length rows) < used → forgotten rows used n ≡ refused Unsupported used rows
+  unfolding forgotten
+  forgotten-over h = rw (lt-ltb (capacity (length rows)) used h)
+
+  pub forgotten-closed : used ≤ capacity (length rows) → forgotten rows used n ≡ record { outcome = Done; used = length (kept n used rows); rows = closed n used rows }
+  unfolding forgotten
+  forgotten-closed h = rw (le-ltb (capacity (length rows)) used h)
+
+-- ---- a promise of what a call leaves allows one answer, and one content of the rows
+
+pub one : (after : After) (r r′ : Recorded) (l l′ : List CounterRow) → left r l ≡ after → left r′ l′ ≡ after → (r ≡ r′) × (l ≡ l′)
+one after r r′ l l′ e e′ =
+    let same : left r l ≡ left r′ l′ = e ∙ sym e′ in
+    ((λ i. record { outcome = same i .outcome; used = same i .used }), (λ i. same i .rows))
 
 -- ---- recording loses and adds no row of those lent, and what is in use after it is the table
 

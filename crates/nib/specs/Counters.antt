@@ -16,6 +16,7 @@ use Rattle.cells.specs.Rows.{Rows, find, put, room}
 use Rattle.nib.specs.declared.counters.CounterRow.{CounterRow}
 use Rattle.nib.specs.declared.counters.Known.{Known}
 use Rattle.nib.specs.declared.counters.Known.the-variants.{Nothing, Counter}
+use Rattle.nib.specs.declared.counters.Recorded.{Recorded}
 use Rattle.nib.specs.declared.counters.Standing.{Standing}
 use Rattle.nib.specs.Pairs.{Pair, samePair, same-pair-refl, same-pair-eq}
 
@@ -60,6 +61,10 @@ pub record After : Type 0 where
   pub outcome : Outcome
   pub used : ℕ
   pub rows : List CounterRow
+
+-- the answer r, and the rows as they are then
+abbrev pub left : Recorded → List CounterRow → After
+left r rows = record { outcome = r .outcome; used = r .used; rows = rows }
 
 -- a refusal changes nothing
 abbrev pub refused : Refusal → ℕ → List CounterRow → After

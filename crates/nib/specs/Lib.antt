@@ -7,6 +7,4 @@ pub mod Counters
 pub mod CounterLaws
 pub mod Gaps
 pub mod Forgetting
-pub mod Lent
-pub mod LentLaws
 pub mod Cases

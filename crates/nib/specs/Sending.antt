@@ -1,7 +1,8 @@
 -- The outgoing counter (document 01, 'Reset' and 'Called alone'; ZB 4.3.1.1, 4.3.4).
 use mathlib.Core.Bool.{Bool, cond, not}
-use Prim.Native.Nat.{_+_}
+use Prim.Native.Nat.{ℕ, _+_}
 use lib.Dec.{eqb, ltb}
+use Rattle.answer.specs.declared.Outcome.{Outcome}
 use Rattle.answer.specs.declared.Outcome.the-variants.{Done, Refused}
 use Rattle.answer.specs.declared.Refusal.the-variants.{CounterExhausted}
 use Rattle.nib.specs.declared.outgoing.Outgoing.{Outgoing}
@@ -11,8 +12,18 @@ use Rattle.nib.specs.declared.outgoing.Taken.{Taken}
 abbrev pub mayUse : Outgoing → Bool
 mayUse o = not (eqb (o .next) 4294967295)
 
+-- what a call leaves: its outcome, the counter that it hands back, and the record that was lent
+pub record AfterTaking : Type 0 where
+  pub outcome : Outcome
+  pub counter : ℕ
+  pub outgoing : Outgoing
+
+-- the answer r, and the record as it is then
+abbrev pub took : Taken → Outgoing → AfterTaking
+took r o = record { outcome = r .outcome; counter = r .counter; outgoing = o }
+
 -- the counter is handed back and the next one is left; or 0 is handed back and nothing changes
-unfoldable pub taken : Outgoing → Taken
+unfoldable pub taken : Outgoing → AfterTaking
 taken o =
     cond (mayUse o) (record { outcome = Done; counter = o .next; outgoing = record { next = o .next + 1 } })
     (record { outcome = Refused CounterExhausted; counter = 0; outgoing = o })

@@ -1,18 +1,17 @@
-// The counter that the network layer sends next (ZB 4.3.1.1, 4.3.4): one for all keys.
+// The counter that the network layer sends next (ZB 4.3.1.1, 4.3.4): one for all keys. The crate `counter_record` takes from it.
 ghost use mathlib.Core.Path.{_≡_};
-ghost use Rattle.nib.specs.Sending.{mayUse, taken, restarted};
+ghost use Rattle.nib.specs.Sending.{mayUse, restarted};
 use answer::Outcome;
-use answer::Refusal;
 
+#[repr(C)]
 pub struct Outgoing {
     pub next: u32,
 }
 
-// The counter taken (0 where the outcome is a refusal), and the record after it.
+// The counter taken, or 0 where the outcome is a refusal.
 pub struct Taken {
     pub outcome: Outcome,
     pub counter: u32,
-    pub outgoing: Outgoing,
 }
 
 // The last counter is never sent: no other could follow it.
@@ -20,26 +19,6 @@ pub fn usable(outgoing: Outgoing) -> bool
     ensures { λ r. ⌜ r ≡ mayUse outgoing ⌝ }
 {
     outgoing.next != 4294967295
-}
-
-pub fn take(outgoing: Outgoing) -> Taken
-    ensures { λ r. ⌜ r ≡ taken outgoing ⌝ }
-{
-    if usable(outgoing) {
-        Taken {
-            outcome: Outcome::Done,
-            counter: outgoing.next,
-            outgoing: Outgoing {
-                next: outgoing.next + 1,
-            },
-        }
-    } else {
-        Taken {
-            outcome: Outcome::Refused(Refusal::CounterExhausted),
-            counter: 0,
-            outgoing,
-        }
-    }
 }
 
 // On a change of key: a counter past the half starts anew, so that one who changes keys often does not repeat low counters.

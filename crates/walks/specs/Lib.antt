@@ -1,0 +1,10 @@
+-- The lemmas that more than one walk uses; and `Walk`, which passes on what every walk imports.
+pub mod Tests
+pub mod Turn
+pub mod Locals
+pub mod Calls
+pub mod Conclude
+pub mod Again
+pub mod Shared
+pub mod LocalArray
+pub mod Walk
