@@ -20,7 +20,7 @@ use Rattle.header.specs.Nwk.{nwkControl, nwkKind, nwkLength, nwkOf}
 use Rattle.nib.specs.declared.outgoing.Outgoing.{Outgoing}
 use Rattle.nib.specs.declared.outgoing.Taken.{Taken}
 use Rattle.nib.specs.Keys.{keyFound}
-use Rattle.nib.specs.Sending.{AfterTaking, leftTaken, mayUse, taken}
+use Rattle.nib.specs.Sending.{AfterTaking, mayUse, taken, took}
 use Rattle.protection.specs.Protection.{level}
 use Rattle.nwk.specs.declared.ready.Ready.{Ready}
 use Rattle.nwk.specs.declared.state.Nwk.{Nwk}
@@ -147,11 +147,11 @@ module _ (s : Nwk) (o : Outgoing) (plain out : List ℕ) where
     takes t = rw (checked t .usable)
 
     -- THE SECURING, where a counter is taken, and where none is
-    pub secured-sent : ready .go ≡ true → (t : Taken) (o′ : Outgoing) → leftTaken t o′ ≡ taken o
+    pub secured-sent : ready .go ≡ true → (t : Taken) (o′ : Outgoing) → took t o′ ≡ taken o
         → (y : List ℕ) → y ≡ nwkOnAir s (t .counter) plain (ready .header) ++ drop (length plain + nwkAdded) out
         → secured (ready .answer) y o′ ≡ secureNwk s o plain out
     secured-sent t k o′ e y f =
-        let w : leftTaken k o′ ≡ record { outcome = outcome.Done; counter = o .next; outgoing = record { next = o .next + 1 } } = e ∙ takes t in
+        let w : took k o′ ≡ record { outcome = outcome.Done; counter = o .next; outgoing = record { next = o .next + 1 } } = e ∙ takes t in
         (λ i. record { answer = (ready-sent t i) .answer; out = (f ∙ ap (λ (x : AfterTaking). nwkOnAir s (x .counter) plain (ready .header) ++ drop (length plain + nwkAdded) out) w) i; outgoing = (w i) .outgoing })
         ∙ done t
 

@@ -14,7 +14,7 @@ pub fn secure_nwk(nwk: Nwk, outgoing: &mut Outgoing, plain: &[u8], out: &mut [u8
 {
     let ready = ready_for(nwk, outgoing.next, plain, out.len());
     if ready.go {
-        let taken = crate::stub::take(outgoing);
+        let taken = counter_record::take(outgoing);
         finish(nwk, taken.counter, plain, out, ready.header);
     }
     ready.answer
