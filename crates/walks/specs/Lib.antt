@@ -4,6 +4,7 @@ pub mod Turn
 pub mod Locals
 pub mod Calls
 pub mod Conclude
+pub mod Slices
 pub mod Again
 pub mod Shared
 pub mod LocalArray

@@ -6,6 +6,7 @@ use Rattle.walks.specs.Walk.{ !, AllGo, Atoms, Body, Calls, Env, Fun, GName, Gi
 use mathlib.Core.Option.{Option, none, some}
 use Rattle.answer.specs.declared.Outcome.the-variants.{Done, Refused}
 use Rattle.answer.specs.declared.Refusal.the-variants.{CounterExhausted}
+use Rattle.answer.proofs.Values.{done-is, refused-is}
 use Rattle.answer.proofs.Outcome as O
 use Rattle.answer.proofs.Outcome.Laws as O′
 use Rattle.answer.proofs.Refusal as F
@@ -57,14 +58,8 @@ rec-is n fits = LL.owes T.the-type T′.the-laws (rec n) ((refl, fits), tt)
 why-is : Is F.the-row CounterExhausted (F′.lowered CounterExhausted ∷ [])
 why-is = LE.owes F.the-type F′.the-laws CounterExhausted tt
 
-refused-is : Is O.the-row (Refused CounterExhausted) (O′.lowered (Refused CounterExhausted) ∷ [])
-refused-is = LE.owes O.the-type O′.the-laws (Refused CounterExhausted) (why-is, tt)
-
-done-is : Is O.the-row Done (O′.lowered Done ∷ [])
-done-is = LE.owes O.the-type O′.the-laws Done tt
-
 none-is : Is R.the-row none-left (R′.lowered none-left ∷ [])
-none-is = LL.owes R.the-type R′.the-laws none-left (refused-is, ((refl, lit< tt), tt))
+none-is = LL.owes R.the-type R′.the-laws none-left (refused-is CounterExhausted why-is, ((refl, lit< tt), tt))
 
 the-is : (n : ℕ) → n < 2 ^ 32 → Is R.the-row (the n) (R′.lowered (the n) ∷ [])
 the-is n fits = LL.owes R.the-type R′.the-laws (the n) (done-is, ((refl, fits), tt))
@@ -112,7 +107,7 @@ module _ {M : Type 1} (𝓤 : URA M) (H : Heap 𝓤) (A : Atoms 𝓤) (W : Given
         assigns ! (bin ! (load ! (from ! (stop !)) (look ! 15 refl)) (neg-lit ! tt) tt) (from ! (stop !)) (init ! 13 refl (tt, tt)) $
         first ! $ branches ! (load ! (from ! (stop !)) (look ! 13 refl))
         (λ t. assigns ! (agg ! (and-then ! (lit ! tt) (no-more !))) (from ! (stop !)) (init ! 11 refl (LE.lawful F.the-type F′.the-laws 𝓤 H A W tt .typed CounterExhausted _ why-is .0)) $
-        assigns ! (agg ! (and-then ! (lit ! tt) (and-then ! (load ! (from ! (stop !)) (look ! 11 refl)) (no-more !)))) (from ! (stop !)) (init ! 9 refl (LE.lawful O.the-type O′.the-laws 𝓤 H A W tt .typed (Refused CounterExhausted) _ refused-is .0)) $
+        assigns ! (agg ! (and-then ! (lit ! tt) (and-then ! (load ! (from ! (stop !)) (look ! 11 refl)) (no-more !)))) (from ! (stop !)) (init ! 9 refl (LE.lawful O.the-type O′.the-laws 𝓤 H A W tt .typed (Refused CounterExhausted) _ (refused-is CounterExhausted why-is) .0)) $
         assigns ! (agg ! (and-then ! (load ! (from ! (stop !)) (look ! 9 refl)) (and-then ! (lit ! tt) (no-more !)))) (from ! (stop !)) (init ! 19 refl (LL.lawful R.the-type R′.the-laws 𝓤 H A W .typed none-left _ none-is .0)) $
         closes ! tt T.the-row (rec n) (rec-val n ∷ []) b o $
         returns-within ! Post refl (look ! 17 refl) $ leave ! (Closed n) (Locals (some _) (some _) (some _) (some _) (some _) none none) $ exits n none-left none-is (last n t))
