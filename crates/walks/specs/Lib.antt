@@ -9,3 +9,4 @@ pub mod Again
 pub mod Shared
 pub mod LocalArray
 pub mod Walk
+pub mod Lends
