@@ -5,8 +5,7 @@ use denote.Enum.Laws as LE
 use denote.Triple.Walked.{stay-dropped, goes-dropped}
 use mathlib.Core.Option.{Option, none, some as that}
 use Rattle.walks.specs.Walk.{ !, AllGo, Atoms, Calls, Contract, Env, Fml, FmC, Fun, GName, Given, Heap, Is, Item, Lft, List, Local, Loops, Memory, MutSlice, RefT, Room, Routine, SProp, Share, ShrSlice, Sq, Stays, T, Triple, Ty, URA, Val, Walks, WpFn, [], _$_, _++_, _<_, _^_, _∵_, _≡_, _⊛_, _∷_, addr, agg, alloc0, alloc1, and-then, answers, ap, assigns, atRet, await, branches, cited, concludes, done, drop, emp, ends-at, ensured, ent, enter, erased, exE, exec, fact, fails, fat, feqL, first, fjoin, fld, flft, fmOf, frame, from, fsplit, fst∗, ftrue, fullShare, givenOf, goes-slice, heard, holds, hop, id⊢, imm, init, join, land, lasts, later, leave, length, lft-end, lft-new, load, look, look-in, move, mut, mut-slice-tells, named, no-more, not, nothing, number, of-opd, onEntry, only, owned, owns, params1, pass0, pass1, pick, places, plain, pointee, prop, qed, raw, refl, returns, returns-within, rewrite, runs, says, sem, skips, slice-vals, sliceTy, sliceVal, snd∗, some, split, stack, stay-slice, stop, sub, subst, suffices, tables, tablesOf, tripleOf, tyBool, tyInt, tyRef, u8, uint-tells, uint-vals, use1, use2, use3, usize, vbool, via, vint, w32, w64, w8, walkOf, walked, whole, yes, ‵, ℕ, ⋆}
-use Rattle.walks.specs.Again.{LentAgain, lends-again, comes-back}
-use Rattle.walks.specs.Shared.{LentShared, lends-shared, shared-back}
+use Rattle.walks.specs.Lends.{on-shared, off-shared, on-again, off-again, token, learns}
 use Rattle.nib.specs.Counters.{heldFor, left, pair, recorded}
 use Rattle.nib.specs.declared.counters.CounterRow.{CounterRow}
 use Rattle.nib.specs.declared.counters.Recorded.{Recorded}
@@ -100,6 +99,10 @@ word = tyInt w64
 abbrev rowTy : Ty
 rowTy = pointee (T.the-row .written)
 
+-- the numbers of a caller are of their sizes
+fits : (c : Caller) → Is K.the-row c (kv c ∷ []) → (c .number < 2 ^ 8) × (c .sender < 2 ^ 64) × (c .counter < 2 ^ 32)
+fits c is = let w = LL.owed K.the-type K′.the-laws c (kv c ∷ []) is in (w .1 .0 .1, w .1 .1 .0 .1, w .1 .1 .1 .0 .1)
+
 module _ {M : Type 1} (𝓤 : URA M) (H : Heap 𝓤) (A : Atoms 𝓤) (W : Given 𝓤 H A) (mem : Memory → SProp 𝓤) (run : Routine → Fun 𝓤) (κ κ′ : Lft) (q q′ : Share) (b o : ℕ) (γ : GName) (ys : List CounterRow) (b′ o′ : ℕ) (γ′ : GName) (bs : List ℕ) (s : Nwk) (used : ℕ)
     (room : Room T.the-row (length ys)) (room′ : Room u8 (length bs)) (used-fits : used < 2 ^ 64) (s-is : Is N.the-row s (nv s ∷ [])) where
   abbrev ref : GName → List CounterRow → RefT (List CounterRow)
@@ -162,13 +165,7 @@ module _ {M : Type 1} (𝓤 : URA M) (H : Heap 𝓤) (A : Atoms 𝓤) (W : Given
         number ! w64 used used-fits $ fjoin ! $ number ! w64 (length ys) (room .0) $ fjoin ! $ owned ! N.the-row (Is N.the-row) (LL.makes N.the-type N′.the-plain 𝓤 H A) s _ s-is $ fjoin ! $
         move ! (1 ∷ 0 ∷ []) $ join ! $ frame ! $ done !
 
-    abbrev the-caller : Caller
-    the-caller = callerOf (nwkAsked s (length ys) used bs)
-
-    caller-said : (r : Caller) → ent 𝓤 (ensured 𝓤 H A caller-of.ended (caller-of.clauses 𝓤 H A mem run) (ν ∷ [], tt) calls tt r) (fact 𝓤 (r ≡ the-caller))
-    caller-said r = exE 𝓤 _ (λ ws. snd∗ 𝓤 (sem 𝓤 H A (lasts caller-of.ended (ν ∷ [], tt) calls ws)) (fact 𝓤 (r ≡ the-caller)))
-
-    module _ (c : Caller) (number-fits : c .number < 2 ^ 8) (sender-fits : c .sender < 2 ^ 64) (counter-fits : c .counter < 2 ^ 32) where
+    module _ (c : Caller) (c-is : Is K.the-row c (kv c ∷ [])) where
       abbrev asks : RefT (List CounterRow) × (ℕ × (ℕ × (ℕ × Unit {0})))
       asks = (ref δ ys, (used, (c .number, (c .sender, tt))))
 
@@ -181,13 +178,7 @@ module _ {M : Type 1} (𝓤 : URA M) (H : Heap 𝓤) (A : Atoms 𝓤) (W : Given
       goes-held : ent 𝓤 (⋆ 𝓤 H A (‵ (flft (ν ∷ []) fullShare) ∷ ‵ SeenR ∷ [])) (Held 𝓤 H A mem run .pre to-held)
       goes-held =
           qed W (‵ (flft (ν ∷ []) fullShare) ∷ ‵ SeenR ∷ []) ∵ nothing ! $ move ! (1 ∷ 0 ∷ []) $ join ! $ nothing ! $
-          number ! w64 (c .sender) sender-fits $ fjoin ! $ number ! w8 (c .number) number-fits $ fjoin ! $ number ! w64 used used-fits $ fjoin ! $ move ! (2 ∷ 0 ∷ []) $ fjoin ! $ move ! (1 ∷ 0 ∷ []) $ join ! $ frame ! $ done !
-
-      abbrev the-standing : Standing
-      the-standing = heldFor ys used (pair (c .number) (c .sender))
-
-      held-said : (r : Standing) → ent 𝓤 (ensured 𝓤 H A held.ended (held.clauses 𝓤 H A mem run) (ν ∷ [], tt) asks tt r) (fact 𝓤 (r ≡ the-standing))
-      held-said r = exE 𝓤 _ (λ ws. snd∗ 𝓤 (sem 𝓤 H A (lasts held.ended (ν ∷ [], tt) asks ws)) (fact 𝓤 (r ≡ the-standing)))
+          number ! w64 (c .sender) (fits c c-is .1) $ fjoin ! $ number ! w8 (c .number) (fits c c-is .0) $ fjoin ! $ number ! w64 used used-fits $ fjoin ! $ move ! (2 ∷ 0 ∷ []) $ fjoin ! $ move ! (1 ∷ 0 ∷ []) $ join ! $ frame ! $ done !
 
       abbrev records : RefT (List CounterRow) × (ℕ × (ℕ × (ℕ × (ℕ × Unit {0}))))
       records = (ref δ ys, (used, (c .number, (c .sender, (c .counter, tt)))))
@@ -200,8 +191,8 @@ module _ {M : Type 1} (𝓤 : URA M) (H : Heap 𝓤) (A : Atoms 𝓤) (W : Given
 
       goes-record : ent 𝓤 (⋆ 𝓤 H A (‵ (flft (ν ∷ []) fullShare) ∷ ‵ GivenR ∷ [])) (Record 𝓤 H A mem run .pre to-record)
       goes-record =
-          qed W (‵ (flft (ν ∷ []) fullShare) ∷ ‵ GivenR ∷ []) ∵ nothing ! $ move ! (1 ∷ 0 ∷ []) $ join ! $ nothing ! $ number ! w32 (c .counter) counter-fits $ fjoin ! $
-          number ! w64 (c .sender) sender-fits $ fjoin ! $ number ! w8 (c .number) number-fits $ fjoin ! $ number ! w64 used used-fits $ fjoin ! $ move ! (2 ∷ 0 ∷ []) $ fjoin ! $ move ! (1 ∷ 0 ∷ []) $ join ! $ frame ! $ done !
+          qed W (‵ (flft (ν ∷ []) fullShare) ∷ ‵ GivenR ∷ []) ∵ nothing ! $ move ! (1 ∷ 0 ∷ []) $ join ! $ nothing ! $ number ! w32 (c .counter) (fits c c-is .2) $ fjoin ! $
+          number ! w64 (c .sender) (fits c c-is .1) $ fjoin ! $ number ! w8 (c .number) (fits c c-is .0) $ fjoin ! $ number ! w64 used used-fits $ fjoin ! $ move ! (2 ∷ 0 ∷ []) $ fjoin ! $ move ! (1 ∷ 0 ∷ []) $ join ! $ frame ! $ done !
 
     module _ (who : Who) (who-is : Is P.the-row who (wv who ∷ [])) (t : Standing) (t-is : Is S.the-row t (tv t ∷ [])) where
       abbrev judges : Nwk × (Who × (Standing × (RefT (List ℕ) × Unit {0})))
@@ -214,8 +205,8 @@ module _ {M : Type 1} (𝓤 : URA M) (H : Heap 𝓤) (A : Atoms 𝓤) (W : Given
       GivenF = MutSlice (named 0) (ν ∷ []) u8 .own (ref′ δ bs) (fv ∷ [])
 
       goes-judge : ((c : Claim) → who ≡ Claims c → Sized c bs) → ent 𝓤 (⋆ 𝓤 H A (‵ (flft (ν ∷ []) fullShare) ∷ ‵ GivenF ∷ [])) (Judge 𝓤 H A mem run .pre to-judge)
-      goes-judge fits =
-          qed W (‵ (flft (ν ∷ []) fullShare) ∷ ‵ GivenF ∷ []) ∵ says ! fits $ nothing ! $ move ! (1 ∷ 0 ∷ []) $ join ! $ frame ! $ nothing ! $ move ! (1 ∷ 0 ∷ []) $ fjoin ! $
+      goes-judge is-sized =
+          qed W (‵ (flft (ν ∷ []) fullShare) ∷ ‵ GivenF ∷ []) ∵ says ! is-sized $ nothing ! $ move ! (1 ∷ 0 ∷ []) $ join ! $ frame ! $ nothing ! $ move ! (1 ∷ 0 ∷ []) $ fjoin ! $
           owned ! S.the-row (Is S.the-row) (LL.makes S.the-type S′.the-plain 𝓤 H A) t _ t-is $ fjoin ! $ owned ! P.the-row (Is P.the-row) (LE.makes P.the-type P′.the-plain 𝓤 H A) who _ who-is $ fjoin ! $
           owned ! N.the-row (Is N.the-row) (LL.makes N.the-type N′.the-plain 𝓤 H A) s _ s-is $ fjoin ! $ done !
 
@@ -238,79 +229,56 @@ module _ {M : Type 1} (𝓤 : URA M) (H : Heap 𝓤) (A : Atoms 𝓤) (W : Given
       body : Sq W (Front ys bs ++ stack Start []) (runs C Λ En mir′.t-1 (atRet En Post))
       body =
           assigns ! (of-opd ! (load ! (from ! (fld ! refl (stop !))) (look-in ! 36 (sub ! 1 refl (whole !))))) (from ! (stop !)) (init ! 22 refl (tt, record { fits = room .0 })) $
+          -- caller = caller_of(nwk, rows.len(), used, frame)
           assigns ! (addr ! (from ! (fld ! refl (hop ! (look-in ! 32 (sub ! 0 refl (whole !))) (stop !))))) (from ! (stop !)) (init ! 20 refl (tt, tt)) $
           assigns ! (agg ! (and-then ! (load ! (from ! (stop !)) (look ! 20 refl)) (and-then ! (load ! (from ! (fld ! refl (stop !))) (look-in ! 32 (sub ! 1 refl (whole !)))) (no-more !)))) (from ! (stop !)) (init ! 18 refl (tt, (tt, (record { fits = room′ .0 }, tt)))) $
-          -- caller = caller_of(nwk, rows.len(), used, frame): the frame is lent as shared
-          lft-new ! tt (λ ν. move ! (4 ∷ 3 ∷ []) $
-          use2 W (later (some (λ (δ : GName). ‵ (SeenF ν δ) ⊛ ‵ (LentShared u8 κ′ (ν ∷ []) q′ γ′ b′ o′ bs)))) (lends-shared u8 κ′ (ν ∷ []) q′ γ′ b′ o′ 𝓤 H A W (named 1) (named 0) bs) $ await ! tt $ pick ! (λ δ. split ! $
-          move ! (2 ∷ 0 ∷ []) $ use2 W (raw (CallerOf 𝓤 H A mem run .pre (to-caller ν δ))) (goes-caller ν δ) $
-          answers ! fm caller-of.ended (caller-of.clauses 𝓤 H A mem run) known-caller (to-caller ν δ) (and-then ! (load ! (from ! (stop !)) (look ! 38 refl)) (and-then ! (load ! (from ! (stop !)) (look ! 22 refl)) (and-then ! (load ! (from ! (stop !)) (look ! 34 refl)) (and-then ! (load ! (from ! (stop !)) (look ! 18 refl)) (no-more !))))) (λ v c is.
-          move ! (1 ∷ []) $ use1 W (raw (fact 𝓤 (c ≡ the-caller ν δ))) (caller-said ν δ c) $ heard ! (c ≡ the-caller ν δ) (λ e.
-          let c-is : Is K.the-row c (kv c ∷ []) = subst (Is K.the-row c) (LL.tells K.the-type K′.the-laws c (v ∷ []) is) is in
+          move ! (2 ∷ 3 ∷ []) $ on-shared ! u8 (named 1) (named 0) κ′ q′ γ′ b′ o′ bs (λ ν δ. use2 W (raw (CallerOf 𝓤 H A mem run .pre (to-caller ν δ))) (goes-caller ν δ) $
+          learns ! fm caller-of.ended (caller-of.clauses 𝓤 H A mem run) known-caller (to-caller ν δ) (and-then ! (load ! (from ! (stop !)) (look ! 38 refl)) (and-then ! (load ! (from ! (stop !)) (look ! 22 refl)) (and-then ! (load ! (from ! (stop !)) (look ! 34 refl)) (and-then ! (load ! (from ! (stop !)) (look ! 18 refl)) (no-more !)))))
+          (LL.vals K.the-type K′.the-laws) (LL.tells K.the-type K′.the-laws) (λ c _. c ≡ callerOf (nwkAsked s (length ys) used bs)) (λ c _. id⊢ 𝓤 _) (λ c _ c-is is-caller.
           let parts = LL.owed K.the-type K′.the-laws c (kv c ∷ []) c-is in
-          land ! (from ! (stop !)) (init ! 30 refl (LL.lawful K.the-type K′.the-laws 𝓤 H A W .typed c _ is .0)) $ rewrite ! 30 (λ (u : Val). ‵ (fat fullShare K′.mir l₅ 0 u)) (ap only (LL.tells K.the-type K′.the-laws c (v ∷ []) is)) refl $
-          use1 W (‵ (flft (ν ∷ []) fullShare) ⊛ ‵ ftrue) (id⊢ 𝓤 _) $ split ! $ lft-end ! tt $ move ! (1 ∷ []) $ drop ! $
-          use2 W (later (‵ (OwnF bs) ⊛ ‵ (flft κ′ q′))) (shared-back u8 κ′ (ν ∷ []) q′ γ′ b′ o′ 𝓤 H A W (named 1) (named 0) bs room′) $ await ! tt $ split ! $ move ! (2 ∷ 3 ∷ 1 ∷ 0 ∷ []) $
-          -- standing = held(rows, used, caller.number, caller.sender): the rows are lent as shared
+          move ! (1 ∷ []) $ drop ! $ land ! (from ! (stop !)) (init ! 30 refl (LL.lawful K.the-type K′.the-laws 𝓤 H A W .typed c _ c-is .0)) $
+          token ! (ν ∷ []) fullShare $ off-shared ! u8 (named 1) (named 0) κ′ q′ γ′ b′ o′ bs room′ ν $ move ! (2 ∷ 3 ∷ []) $
+          -- standing = held(rows, used, caller.number, caller.sender)
           assigns ! (addr ! (from ! (fld ! refl (hop ! (look-in ! 36 (sub ! 0 refl (whole !))) (stop !))))) (from ! (stop !)) (init ! 16 refl (tt, tt)) $
           assigns ! (agg ! (and-then ! (load ! (from ! (stop !)) (look ! 16 refl)) (and-then ! (load ! (from ! (fld ! refl (stop !))) (look-in ! 36 (sub ! 1 refl (whole !)))) (no-more !)))) (from ! (stop !)) (init ! 14 refl (tt, (tt, (record { fits = room .0 }, tt)))) $
-          lft-new ! tt (λ ν₂. move ! (2 ∷ 1 ∷ []) $
-          use2 W (later (some (λ (δ₂ : GName). ‵ (ShrSlice (named 0) (ν₂ ∷ []) T.the-row .own (ref δ₂ ys) (sv ∷ [])) ⊛ ‵ (LentShared T.the-row κ (ν₂ ∷ []) q γ b o ys)))) (lends-shared T.the-row κ (ν₂ ∷ []) q γ b o 𝓤 H A W (named 0) (named 0) ys) $ await ! tt $ pick ! (λ δ₂. split ! $
-          let sent = to-held ν₂ δ₂ c (parts .1 .0 .1) (parts .1 .1 .0 .1) (parts .1 .1 .1 .0 .1) in
-          move ! (2 ∷ 0 ∷ []) $ use2 W (raw (Held 𝓤 H A mem run .pre sent)) (goes-held ν₂ δ₂ c (parts .1 .0 .1) (parts .1 .1 .0 .1) (parts .1 .1 .1 .0 .1)) $
-          answers ! fm held.ended (held.clauses 𝓤 H A mem run) known-held sent (and-then ! (load ! (from ! (stop !)) (look ! 14 refl)) (and-then ! (load ! (from ! (stop !)) (look ! 34 refl)) (and-then ! (load ! (from ! (fld ! refl (stop !))) (look-in ! 30 (sub ! 1 refl (whole !)))) (and-then ! (load ! (from ! (fld ! refl (stop !))) (look-in ! 30 (sub ! 2 refl (whole !)))) (no-more !))))) (λ v₂ t is₂.
-          move ! (1 ∷ []) $ use1 W (raw (fact 𝓤 (t ≡ heldFor ys used (pair (c .number) (c .sender))))) (held-said ν₂ δ₂ c (parts .1 .0 .1) (parts .1 .1 .0 .1) (parts .1 .1 .1 .0 .1) t) $ heard ! (t ≡ heldFor ys used (pair (c .number) (c .sender))) (λ e₂.
-          let t-is : Is S.the-row t (tv t ∷ []) = subst (Is S.the-row t) (LL.tells S.the-type S′.the-laws t (v₂ ∷ []) is₂) is₂ in
-          land ! (from ! (stop !)) (init ! 28 refl (LL.lawful S.the-type S′.the-laws 𝓤 H A W .typed t _ is₂ .0)) $ rewrite ! 28 (λ (u : Val). ‵ (fat fullShare S′.mir l₆ 0 u)) (ap only (LL.tells S.the-type S′.the-laws t (v₂ ∷ []) is₂)) refl $
-          use1 W (‵ (flft (ν₂ ∷ []) fullShare) ⊛ ‵ ftrue) (id⊢ 𝓤 _) $ split ! $ lft-end ! tt $ move ! (1 ∷ []) $ drop ! $
-          use2 W (later (‵ (OwnR ys) ⊛ ‵ (flft κ q))) (shared-back T.the-row κ (ν₂ ∷ []) q γ b o 𝓤 H A W (named 0) (named 0) ys room) $ await ! tt $ split ! $ move ! (1 ∷ 0 ∷ []) $
-          -- verdict = judge(nwk, caller.who, standing, frame): the frame is lent again
+          on-shared ! T.the-row (named 0) (named 0) κ q γ b o ys (λ ν₂ δ₂. use2 W (raw (Held 𝓤 H A mem run .pre (to-held ν₂ δ₂ c c-is))) (goes-held ν₂ δ₂ c c-is) $
+          learns ! fm held.ended (held.clauses 𝓤 H A mem run) known-held (to-held ν₂ δ₂ c c-is) (and-then ! (load ! (from ! (stop !)) (look ! 14 refl)) (and-then ! (load ! (from ! (stop !)) (look ! 34 refl)) (and-then ! (load ! (from ! (fld ! refl (stop !))) (look-in ! 30 (sub ! 1 refl (whole !)))) (and-then ! (load ! (from ! (fld ! refl (stop !))) (look-in ! 30 (sub ! 2 refl (whole !)))) (no-more !)))))
+          (LL.vals S.the-type S′.the-laws) (LL.tells S.the-type S′.the-laws) (λ t _. t ≡ heldFor ys used (pair (c .number) (c .sender))) (λ t _. id⊢ 𝓤 _) (λ t _ t-is is-standing.
+          move ! (1 ∷ []) $ drop ! $ land ! (from ! (stop !)) (init ! 28 refl (LL.lawful S.the-type S′.the-laws 𝓤 H A W .typed t _ t-is .0)) $
+          token ! (ν₂ ∷ []) fullShare $ off-shared ! T.the-row (named 0) (named 0) κ q γ b o ys room ν₂ $
+          -- verdict = judge(nwk, caller.who, standing, frame)
           assigns ! (addr ! (from ! (fld ! refl (hop ! (look-in ! 32 (sub ! 0 refl (whole !))) (stop !))))) (from ! (stop !)) (init ! 12 refl (tt, tt)) $
           assigns ! (agg ! (and-then ! (load ! (from ! (stop !)) (look ! 12 refl)) (and-then ! (load ! (from ! (fld ! refl (stop !))) (look-in ! 32 (sub ! 1 refl (whole !)))) (no-more !)))) (from ! (stop !)) (init ! 10 refl (tt, (tt, (record { fits = room′ .0 }, tt)))) $
-          lft-new ! tt (λ ν₃. move ! (4 ∷ 3 ∷ []) $
-          use2 W (later (some (λ (δ₃ : GName). ‵ (MutSlice (named 0) (ν₃ ∷ []) u8 .own (ref′ δ₃ bs) (fv ∷ [])) ⊛ ‵ (LentAgain u8 κ′ (ν₃ ∷ []) q′ γ′ b′ o′ δ₃ bs)))) (lends-again u8 κ′ (ν₃ ∷ []) q′ γ′ b′ o′ 𝓤 H A W (named 1) (named 0) bs) $ await ! tt $ pick ! (λ δ₃. split ! $
-          let judges₃ = judges ν₃ δ₃ (c .who) (parts .0) t t-is in
-          let sent₃ = to-judge ν₃ δ₃ (c .who) (parts .0) t t-is in
-          move ! (2 ∷ 0 ∷ []) $ use2 W (raw (Judge 𝓤 H A mem run .pre sent₃)) (goes-judge ν₃ δ₃ (c .who) (parts .0) t t-is (sized s ys used bs c e)) $
-          answers ! fm judge.ended (judge.clauses 𝓤 H A mem run) known-judge sent₃ (and-then ! (load ! (from ! (stop !)) (look ! 38 refl)) (and-then ! (load ! (from ! (fld ! refl (stop !))) (look-in ! 30 (sub ! 0 refl (whole !)))) (and-then ! (load ! (from ! (stop !)) (look ! 28 refl)) (and-then ! (load ! (from ! (stop !)) (look ! 10 refl)) (no-more !))))) (λ v₃ j is₃.
-          move ! (1 ∷ []) $ use1 W (some (λ (ws : Unit {0} × (Unit {0} × (Unit {0} × (List ℕ × Unit {0})))). ‵ (lasts judge.ended (ν₃ ∷ [], tt) judges₃ ws) ⊛ raw (fact 𝓤 ((j ≡ verdictOf s (c .who) t bs) × (ws .1 .1 .1 .0 ≡ heardFrame s (c .who) t bs))))) (id⊢ 𝓤 _) $ pick ! (λ ws.
+          move ! (2 ∷ 3 ∷ []) $ on-again ! u8 (named 1) (named 0) κ′ q′ γ′ b′ o′ bs (λ ν₃ δ₃. use2 W (raw (Judge 𝓤 H A mem run .pre (to-judge ν₃ δ₃ (c .who) (parts .0) t t-is))) (goes-judge ν₃ δ₃ (c .who) (parts .0) t t-is (sized s ys used bs c is-caller)) $
+          learns ! fm judge.ended (judge.clauses 𝓤 H A mem run) known-judge (to-judge ν₃ δ₃ (c .who) (parts .0) t t-is) (and-then ! (load ! (from ! (stop !)) (look ! 38 refl)) (and-then ! (load ! (from ! (fld ! refl (stop !))) (look-in ! 30 (sub ! 0 refl (whole !)))) (and-then ! (load ! (from ! (stop !)) (look ! 28 refl)) (and-then ! (load ! (from ! (stop !)) (look ! 10 refl)) (no-more !)))))
+          (LL.vals J.the-type J′.the-laws) (LL.tells J.the-type J′.the-laws) (λ j ws. (j ≡ verdictOf s (c .who) t bs) × (ws .1 .1 .1 .0 ≡ heardFrame s (c .who) t bs)) (λ j ws. id⊢ 𝓤 _) (λ j ws j-is is-judged.
           let fs : List ℕ = ws .1 .1 .1 .0 in
-          split ! $ move ! (1 ∷ []) $ heard ! ((j ≡ verdictOf s (c .who) t bs) × (fs ≡ heardFrame s (c .who) t bs)) (λ e₃. fsplit ! $ drop ! $ fsplit ! $ drop ! $ fsplit ! $ drop ! $ fsplit ! $ fsplit ! $ move ! (1 ∷ []) $ feqL ! (λ same′.
-          let j-is : Is J.the-row j (jv j ∷ []) = subst (Is J.the-row j) (LL.tells J.the-type J′.the-laws j (v₃ ∷ []) is₃) is₃ in
           let judged = LL.owed J.the-type J′.the-laws j (jv j ∷ []) j-is in
-          land ! (from ! (stop !)) (init ! 28 refl (LL.lawful J.the-type J′.the-laws 𝓤 H A W .typed j _ is₃ .0)) $ rewrite ! 28 (λ (u : Val). ‵ (fat fullShare J′.mir l₇ 0 u)) (ap only (LL.tells J.the-type J′.the-laws j (v₃ ∷ []) is₃)) refl $
-          move ! (2 ∷ []) $ use1 W (‵ (flft (ν₃ ∷ []) fullShare) ⊛ ‵ ftrue) (id⊢ 𝓤 _) $ split ! $ lft-end ! tt $ move ! (0 ∷ 4 ∷ 2 ∷ []) $
-          use3 W (later (‵ (OwnF fs) ⊛ ‵ (flft κ′ q′))) (comes-back u8 κ′ (ν₃ ∷ []) q′ γ′ b′ o′ 𝓤 H A W (named 1) (named 0) bs δ₃ fs room′ same′) $ await ! tt $ split ! $
-          move ! (4 ∷ 5 ∷ 1 ∷ 0 ∷ []) $ move ! (4 ∷ []) $ drop ! $ move ! (4 ∷ []) $ drop ! $
+          land ! (from ! (stop !)) (init ! 27 refl (LL.lawful J.the-type J′.the-laws 𝓤 H A W .typed j _ j-is .0)) $ token ! (ν₃ ∷ []) fullShare $
+          move ! (1 ∷ []) $ fsplit ! $ drop ! $ fsplit ! $ drop ! $ fsplit ! $ drop ! $ fsplit ! $ move ! (1 ∷ []) $ drop ! $ fsplit ! $ move ! (1 ∷ []) $ feqL ! (λ same′.
+          move ! (1 ∷ 2 ∷ 0 ∷ []) $ off-again ! u8 (named 1) (named 0) κ′ q′ γ′ b′ o′ bs room′ ν₃ δ₃ fs same′ $ move ! (2 ∷ 3 ∷ []) $
           assigns ! (of-opd ! (load ! (from ! (fld ! refl (stop !))) (look-in ! 26 (sub ! 2 refl (whole !))))) (from ! (stop !)) (init ! 8 refl (tt, tt)) $
           first ! $ branches ! (load ! (from ! (stop !)) (look ! 8 refl))
-          -- record(rows, used, caller.number, caller.sender, caller.counter): the rows are lent again
-          (λ yes′. assigns ! (addr ! (from ! (fld ! refl (hop ! (look-in ! 36 (sub ! 0 refl (whole !))) (stop !))))) (from ! (stop !)) (init ! 6 refl (tt, tt)) $
+          -- record(rows, used, caller.number, caller.sender, caller.counter)
+          (λ opens. assigns ! (addr ! (from ! (fld ! refl (hop ! (look-in ! 36 (sub ! 0 refl (whole !))) (stop !))))) (from ! (stop !)) (init ! 6 refl (tt, tt)) $
           assigns ! (agg ! (and-then ! (load ! (from ! (stop !)) (look ! 6 refl)) (and-then ! (load ! (from ! (fld ! refl (stop !))) (look-in ! 36 (sub ! 1 refl (whole !)))) (no-more !)))) (from ! (stop !)) (init ! 4 refl (tt, (tt, (record { fits = room .0 }, tt)))) $
-          lft-new ! tt (λ ν₄. move ! (2 ∷ 1 ∷ []) $
-          use2 W (later (some (λ (δ₄ : GName). ‵ (MutSlice (named 0) (ν₄ ∷ []) T.the-row .own (ref δ₄ ys) (sv ∷ [])) ⊛ ‵ (LentAgain T.the-row κ (ν₄ ∷ []) q γ b o δ₄ ys)))) (lends-again T.the-row κ (ν₄ ∷ []) q γ b o 𝓤 H A W (named 0) (named 0) ys) $ await ! tt $ pick ! (λ δ₄. split ! $
-          let records₄ = records ν₄ δ₄ c (parts .1 .0 .1) (parts .1 .1 .0 .1) (parts .1 .1 .1 .0 .1) in
-          let sent₄ = to-record ν₄ δ₄ c (parts .1 .0 .1) (parts .1 .1 .0 .1) (parts .1 .1 .1 .0 .1) in
-          move ! (2 ∷ 0 ∷ []) $ use2 W (raw (Record 𝓤 H A mem run .pre sent₄)) (goes-record ν₄ δ₄ c (parts .1 .0 .1) (parts .1 .1 .0 .1) (parts .1 .1 .1 .0 .1)) $
-          answers ! fm record′.ended (record′.clauses 𝓤 H A mem run) known-record sent₄ (and-then ! (load ! (from ! (stop !)) (look ! 4 refl)) (and-then ! (load ! (from ! (stop !)) (look ! 34 refl)) (and-then ! (load ! (from ! (fld ! refl (stop !))) (look-in ! 30 (sub ! 1 refl (whole !)))) (and-then ! (load ! (from ! (fld ! refl (stop !))) (look-in ! 30 (sub ! 2 refl (whole !)))) (and-then ! (load ! (from ! (fld ! refl (stop !))) (look-in ! 30 (sub ! 3 refl (whole !)))) (no-more !)))))) (λ v₄ r is₄.
-          move ! (1 ∷ []) $ use1 W (some (λ (zs : List CounterRow × (Unit {0} × (Unit {0} × (Unit {0} × (Unit {0} × Unit {0}))))). ‵ (lasts record′.ended (ν₄ ∷ [], tt) records₄ zs) ⊛ raw (fact 𝓤 (left r (zs .0) ≡ recorded ys used (pair (c .number) (c .sender)) (c .counter))))) (id⊢ 𝓤 _) $ pick ! (λ zs.
-          split ! $ move ! (1 ∷ []) $ heard ! (left r (zs .0) ≡ recorded ys used (pair (c .number) (c .sender)) (c .counter)) (λ e₄. fsplit ! $ fsplit ! $ move ! (1 ∷ []) $ feqL ! (λ same.
-          let r-is : Is R.the-row r (rv r ∷ []) = subst (Is R.the-row r) (LL.tells R.the-type R′.the-laws r (v₄ ∷ []) is₄) is₄ in
+          on-again ! T.the-row (named 0) (named 0) κ q γ b o ys (λ ν₄ δ₄. use2 W (raw (Record 𝓤 H A mem run .pre (to-record ν₄ δ₄ c c-is))) (goes-record ν₄ δ₄ c c-is) $
+          learns ! fm record′.ended (record′.clauses 𝓤 H A mem run) known-record (to-record ν₄ δ₄ c c-is) (and-then ! (load ! (from ! (stop !)) (look ! 4 refl)) (and-then ! (load ! (from ! (stop !)) (look ! 34 refl)) (and-then ! (load ! (from ! (fld ! refl (stop !))) (look-in ! 30 (sub ! 1 refl (whole !)))) (and-then ! (load ! (from ! (fld ! refl (stop !))) (look-in ! 30 (sub ! 2 refl (whole !)))) (and-then ! (load ! (from ! (fld ! refl (stop !))) (look-in ! 30 (sub ! 3 refl (whole !)))) (no-more !))))))
+          (LL.vals R.the-type R′.the-laws) (LL.tells R.the-type R′.the-laws) (λ r zs. left r (zs .0) ≡ recorded ys used (pair (c .number) (c .sender)) (c .counter)) (λ r zs. id⊢ 𝓤 _) (λ r zs r-is is-recorded.
           let result : OpenedNwk = record { answer = j .answer; used = r .used; active = j .active } in
           let result-is : Is O.the-row result (ov result ∷ []) = LL.owes O.the-type O′.the-laws result (judged .0, (LL.owed R.the-type R′.the-laws r (rv r ∷ []) r-is .1 .0, (judged .1 .0, tt))) in
-          land ! (from ! (stop !)) (init ! 26 refl (LL.lawful R.the-type R′.the-laws 𝓤 H A W .typed r _ is₄ .0)) $ rewrite ! 26 (λ (u : Val). ‵ (fat fullShare R′.mir l₈ 0 u)) (ap only (LL.tells R.the-type R′.the-laws r (v₄ ∷ []) is₄)) refl $
-          move ! (2 ∷ []) $ use1 W (‵ (flft (ν₄ ∷ []) fullShare) ⊛ ‵ ftrue) (id⊢ 𝓤 _) $ split ! $ lft-end ! tt $ move ! (0 ∷ 4 ∷ 2 ∷ []) $
-          use3 W (later (‵ (OwnR (zs .0)) ⊛ ‵ (flft κ q))) (comes-back T.the-row κ (ν₄ ∷ []) q γ b o 𝓤 H A W (named 0) (named 0) ys δ₄ (zs .0) room same) $ await ! tt $ split ! $
-          move ! (1 ∷ 0 ∷ 4 ∷ 5 ∷ []) $ move ! (4 ∷ []) $ drop ! $ move ! (4 ∷ []) $ drop ! $
+          land ! (from ! (stop !)) (init ! 25 refl (LL.lawful R.the-type R′.the-laws 𝓤 H A W .typed r _ r-is .0)) $ token ! (ν₄ ∷ []) fullShare $
+          move ! (1 ∷ []) $ fsplit ! $ move ! (1 ∷ []) $ drop ! $ fsplit ! $ move ! (1 ∷ []) $ feqL ! (λ same.
+          move ! (1 ∷ 2 ∷ 0 ∷ []) $ off-again ! T.the-row (named 0) (named 0) κ q γ b o ys room ν₄ δ₄ (zs .0) same $
           assigns ! (agg ! (and-then ! (load ! (from ! (fld ! refl (stop !))) (look-in ! 26 (sub ! 0 refl (whole !)))) (and-then ! (load ! (from ! (fld ! refl (stop !))) (look-in ! 24 (sub ! 1 refl (whole !)))) (and-then ! (load ! (from ! (fld ! refl (stop !))) (look-in ! 26 (sub ! 1 refl (whole !)))) (no-more !))))) (from ! (stop !)) (init ! 40 refl (LL.lawful O.the-type O′.the-laws 𝓤 H A W .typed result _ result-is .0)) $
           returns-within ! Post refl (look ! 40 refl) $ leave ! (Front (zs .0) fs) (Locals (that _) (that _) (that _) (that _) (that _) (that _) (that _) (that _) (that _) (that _) (that _) (that _) (that _) (that _) (that _)) $
-          exits (zs .0) fs result same same′ result-is (opened-recorded s ys used bs c e t e₂ j fs e₃ (holds (j .opens) yes′) r (zs .0) e₄))))))))
-          (λ no′. let result : OpenedNwk = record { answer = j .answer; used = used; active = j .active } in
+          exits (zs .0) fs result same same′ result-is (opened-recorded s ys used bs c is-caller t is-standing j fs is-judged (holds (j .opens) opens) r (zs .0) is-recorded)))))
+          (λ stays. let result : OpenedNwk = record { answer = j .answer; used = used; active = j .active } in
           let result-is : Is O.the-row result (ov result ∷ []) = LL.owes O.the-type O′.the-laws result (judged .0, ((refl, used-fits), (judged .1 .0, tt))) in
           skips ! $ exec ! C Λ En mir′.t-13 (atRet En Post) $
           assigns ! (agg ! (and-then ! (load ! (from ! (fld ! refl (stop !))) (look-in ! 26 (sub ! 0 refl (whole !)))) (and-then ! (load ! (from ! (stop !)) (look ! 34 refl)) (and-then ! (load ! (from ! (fld ! refl (stop !))) (look-in ! 26 (sub ! 1 refl (whole !)))) (no-more !))))) (from ! (stop !)) (init ! 40 refl (LL.lawful O.the-type O′.the-laws 𝓤 H A W .typed result _ result-is .0)) $
           returns ! (look ! 40 refl) $ leave ! (Front ys fs) (Locals (that _) (that _) (that _) (that _) none (that _) (that _) (that _) (that _) (that _) (that _) (that _) (that _) none none) $
-          exits ys fs result refl same′ result-is (opened-left s ys used bs c e t e₂ j fs e₃ (fails (j .opens) no′)))))))))))))))))
+          exits ys fs result refl same′ result-is (opened-left s ys used bs c is-caller t is-standing j fs is-judged (fails (j .opens) stays))))))))))
 
     walk : ent 𝓤 (onEntry 𝓤 H A f.signature (κ, (κ′, tt)) (q, (q′, tt)) x at) (WpFn 𝓤 H C Λ code.function (nv s ∷ sv ∷ vint w64 used ∷ fv ∷ []) Post)
     walk =
