@@ -13,9 +13,10 @@ pub fn secure_nwk(nwk: Nwk, outgoing: &mut Outgoing, plain: &[u8], out: &mut [u8
     ensures { λ r. ⌜ secured r (now (out .exit)) (now (outgoing .exit)) ≡ secureNwk nwk (now (outgoing .entry)) (now (plain .entry)) (now (out .entry)) ⌝ }
 {
     let ready = ready_for(nwk, outgoing.next, plain, out.len());
-    if ready.go {
-        let taken = counter_record::take(outgoing);
-        finish(nwk, taken.counter, plain, out, ready.header);
+    if !ready.go {
+        return ready.answer;
     }
+    let taken = counter_record::take(outgoing);
+    finish(nwk, taken.counter, plain, out, ready.header);
     ready.answer
 }
