@@ -1,6 +1,6 @@
 -- The two functions that more than one walk of this crate calls, each by its contract: what a call of it asks, and what it says.
 -- Assumes nothing.
-use Rattle.walks.specs.Walk.{!, Atoms, Contract, Fun, GName, Given, Heap, Lft, List, Memory, RefT, Routine, SProp, Share, ShrSlice, URA, Val, [], _$_, _<_, _^_, _∵_, _≡_, _≤_, _∷_, done, emp, ensured, ent, exE, fact, fjoin, flft, frame, join, lasts, length, move, named, nothing, number, qed, says, sem, sliceVal, snd∗, take, tripleOf, vint, w64, w8, ‵, ⋆, ℕ}
+use Rattle.walks.specs.Walk.{ !, Atoms, Contract, Fun, GName, Given, Heap, Lft, List, Memory, RefT, Routine, SProp, Share, ShrSlice, URA, Val, [], _$_, _<_, _^_, _∵_, _≡_, _≤_, _∷_, done, emp, ensured, ent, exE, fact, fjoin, flft, frame, join, lasts, length, move, named, nothing, number, qed, says, sem, sliceVal, snd∗, take, tripleOf, vint, w64, w8, ‵, ⋆, ℕ}
 use Rattle.cells.specs.Rows.{placeOf}
 use Rattle.nib.specs.Counters.{counterRows, pair, capacity}
 use Rattle.nib.specs.declared.counters.CounterRow.{CounterRow}

@@ -3,7 +3,7 @@
 use denote.Struct.Laws as LL
 use denote.Enum.Laws as LE
 use mathlib.Core.Option.{Option, none, some}
-use Rattle.walks.specs.Walk.{!, AllGo, Atoms, Calls, Env, Fml, FmC, Fun, GName, Given, Heap, Is, Item, Lft, List, Local, Loops, Memory, RefT, Room, Routine, SProp, Share, ShrSlice, Sq, Stays, T, Tables, Triple, URA, Val, Walks, WT, WpFn, [], _$_, _*_, _++_, _<_, _^_, _∵_, _≡_, _≤_, _⊛_, _∷_, agg, alloc0, alloc1, and-then, arith, assigns, atRet, bin, branches, cited, concludes, done, drop, elem-back, elem-out, emp, ends-at, ent, enter, eqb→eq, exec, false-lit, false, fat, first, fjoin, fld, flft, fmOf, frame, from, fsplit, fst∗, ftrue, fullShare, getD, hasTy, gives, givenOf, goes-none, goes-none-slice, hop, holds, id⊢, imm, init, join, land, leave, length, lit, load, look, look-in, look-raw, looks-own, ltb, ltb-true, move, named, nltb→le, no-more, not-at, nothing, of-opd, only, onEntry, owned, owns, params1, pass0, pass1, place-is, places, plain, prop, qed, raw, refl, returns, returns-within, rewrite, runs, says, shows, shr-slice-copy, shr-slice-tells, shuts-own, skips, slice-vals, sliceVal, split, stack, stay-none, stay-none-slice, stop, store, sub, suffices, sym, tables, tablesOf, true-lit, true, tyBool, tyInt, tyPtr, u64, u8, uint-tells, uint-vals, use0, use1, use2, usize, via, vint, vptr, w64, w8, walkOf, walked, whole, yes, ‵, ℕ}
+use Rattle.walks.specs.Walk.{ !, AllGo, Atoms, Calls, Env, Fml, FmC, Fun, GName, Given, Heap, Is, Item, Lft, List, Local, Loops, Memory, RefT, Room, Routine, SProp, Share, ShrSlice, Sq, Stays, T, Tables, Triple, URA, Val, Walks, WT, WpFn, [], _$_, _*_, _++_, _<_, _^_, _∵_, _≡_, _≤_, _⊛_, _∷_, agg, alloc0, alloc1, and-then, arith, assigns, atRet, bin, branches, cited, concludes, done, drop, elem-back, elem-out, emp, ends-at, ent, enter, eqb→eq, exec, false-lit, false, fat, first, fjoin, fld, flft, fmOf, frame, from, fsplit, fst∗, ftrue, fullShare, getD, hasTy, gives, givenOf, goes-none, goes-none-slice, hop, holds, id⊢, imm, init, join, land, leave, length, lit, load, look, look-in, look-raw, looks-own, ltb, ltb-true, move, named, nltb→le, no-more, not-at, nothing, of-opd, only, onEntry, owned, owns, params1, pass0, pass1, place-is, places, plain, prop, qed, raw, refl, returns, returns-within, rewrite, runs, says, shows, shr-slice-copy, shr-slice-tells, shuts-own, skips, slice-vals, sliceVal, split, stack, stay-none, stay-none-slice, stop, store, sub, suffices, sym, tables, tablesOf, true-lit, true, tyBool, tyInt, tyPtr, u64, u8, uint-tells, uint-vals, use0, use1, use2, usize, via, vint, vptr, w64, w8, walkOf, walked, whole, yes, ‵, ℕ}
 use Rattle.nib.specs.Counters.{pair, capacity, empty, heldFor}
 use Rattle.nib.specs.CounterLaws.{at as placed, at-le, held-over, held-none, held-row}
 use Rattle.nib.specs.declared.counters.CounterRow.{CounterRow}

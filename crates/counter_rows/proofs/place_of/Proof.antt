@@ -6,7 +6,7 @@
 -- Assumes nothing.
 use denote.Struct.Laws as LL
 use mathlib.Core.Option.{Option, none, some}
-use Rattle.walks.specs.Walk.{!, AllGo, Atoms, Below, Calls, Env, Fml, Fun, GName, Given, Heap, Is, Item, Lft, List, Local, Loops, Memory, Nearer, Out, RefT, Room, Routine, SProp, Share, ShrSlice, Sq, Stays, T, Tables, URA, Val, Walks, Wp, WpFn, [], _$_, _*_, _+_, _++_, _-_, _<_, _^_, _∵_, _≡_, _≤_, _⊛_, _∷_, after, afterBlock, afterSeq, afterTurn, again, alloc0, alloc1, anyQ, arith, arr-parts, assigns, assigns-last, atRet, atReturn, bin, blocks, branches, concludes, done, drop, elem-back, elem-out, ends-at, ent, enter, eqb→eq, exec, fat, first, fjoin, fld, flft, fobor, forget, frame, from, fsplit, ftrue, fullShare, getD, givenOf, goes-none, goes-none-slice, hop, imm, init, join, jumps, leave, length, lit, lit<, load, look, look-in, look-raw, looks-own, loop, loops, move, named, nearer-wf, needs, not-at, nothing, number, of-opd, onEntry, owns, params1, pass0, pass1, place-is, places, plain, prop, qed, refl, returns, rewrite, row, runs, says, shares, shows, shr-slice-tells, shuts-own, skips, slice-vals, sliceVal, split, stack, stay-none, stay-none-slice, stop, store, sub, subst, suffices, sym, tables, tablesOf, take, tyBool, tyInt, tyPtr, u64, u8, uint-tells, uint-vals, usize, vint, vptr, w64, w8, walkOf, walked, whole, yes, ‵, ℕ}
+use Rattle.walks.specs.Walk.{ !, AllGo, Atoms, Below, Calls, Env, Fml, Fun, GName, Given, Heap, Is, Item, Lft, List, Local, Loops, Memory, Nearer, Out, RefT, Room, Routine, SProp, Share, ShrSlice, Sq, Stays, T, Tables, URA, Val, Walks, Wp, WpFn, [], _$_, _*_, _+_, _++_, _-_, _<_, _^_, _∵_, _≡_, _≤_, _⊛_, _∷_, after, afterBlock, afterSeq, afterTurn, again, alloc0, alloc1, anyQ, arith, arr-parts, assigns, assigns-last, atRet, atReturn, bin, blocks, branches, concludes, done, drop, elem-back, elem-out, ends-at, ent, enter, eqb→eq, exec, fat, first, fjoin, fld, flft, fobor, forget, frame, from, fsplit, ftrue, fullShare, getD, givenOf, goes-none, goes-none-slice, hop, imm, init, join, jumps, leave, length, lit, lit<, load, look, look-in, look-raw, looks-own, loop, loops, move, named, nearer-wf, needs, not-at, nothing, number, of-opd, onEntry, owns, params1, pass0, pass1, place-is, places, plain, prop, qed, refl, returns, rewrite, row, runs, says, shares, shows, shr-slice-tells, shuts-own, skips, slice-vals, sliceVal, split, stack, stay-none, stay-none-slice, stop, store, sub, subst, suffices, sym, tables, tablesOf, take, tyBool, tyInt, tyPtr, u64, u8, uint-tells, uint-vals, usize, vint, vptr, w64, w8, walkOf, walked, whole, yes, ‵, ℕ}
 use Rattle.cells.specs.Rows.{placeOf}
 use Rattle.cells.specs.Search.{Passed, start, at-end, hit, miss}
 use Rattle.nib.specs.Counters.{counterRows, pair, empty}
