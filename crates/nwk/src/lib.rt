@@ -6,7 +6,6 @@ mod open;
 mod ready;
 mod secure;
 mod state;
-mod stub;
 
 pub use bridge::OpenedWith;
 pub use bridge::SecuredWith;

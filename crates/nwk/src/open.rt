@@ -25,10 +25,10 @@ pub fn open_nwk(
     ensures { λ r. ⌜ opened r (now (rows .exit)) (now (frame .exit)) ≡ openNwk nwk (now (rows .entry)) used (now (frame .entry)) ⌝ }
 {
     let caller = caller_of(nwk, rows.len(), used, frame);
-    let standing = crate::stub::held(rows, used, caller.number, caller.sender);
+    let standing = counter_rows::held(rows, used, caller.number, caller.sender);
     let verdict = judge(nwk, caller.who, standing, frame);
     if verdict.opens {
-        let recorded = crate::stub::record(rows, used, caller.number, caller.sender, caller.counter);
+        let recorded = counter_rows::record(rows, used, caller.number, caller.sender, caller.counter);
         return OpenedNwk {
             answer: verdict.answer,
             used: recorded.used,

@@ -42,12 +42,12 @@ use Rattle.nwk.proofs.judge.caller_of.Met as caller-of-thm
 use Rattle.nwk.proofs.judge.judge as judge
 use Rattle.nwk.proofs.judge.judge.Symbol as judge-def
 use Rattle.nwk.proofs.judge.judge.Met as judge-thm
-use Rattle.nwk.proofs.stub.held as held
-use Rattle.nwk.proofs.stub.held.Symbol as held-def
-use Rattle.nwk.proofs.stub.held.Met as held-thm
-use Rattle.nwk.proofs.stub.record as record′
-use Rattle.nwk.proofs.stub.record.Symbol as record′-def
-use Rattle.nwk.proofs.stub.record.Met as record′-thm
+use Rattle.counter_rows.proofs.held as held
+use Rattle.counter_rows.proofs.held.Symbol as held-def
+use Rattle.counter_rows.proofs.held.Met as held-thm
+use Rattle.counter_rows.proofs.record as record′
+use Rattle.counter_rows.proofs.record.Symbol as record′-def
+use Rattle.counter_rows.proofs.record.Met as record′-thm
 use Rattle.nwk.proofs.open.open_nwk.Key.{name}
 use Rattle.nwk.proofs.open.open_nwk as f
 use Rattle.nwk.proofs.open.open_nwk.Statement as stated
@@ -308,6 +308,6 @@ open-nwk-spec 𝓤 H 𝓜 𝓖 𝓡 =
     concludes 𝓤 H 𝓜 𝓖 𝓡 f.ended stayed (goes 𝓤 H (𝓖 .A) W (𝓜 .mem) (𝓡 .run)) (f.clauses 𝓤 H (𝓖 .A) (𝓜 .mem) (𝓡 .run)) code.env name code.function (code.unfolded 𝓤 H 𝓜 𝓡)
     (walks 𝓤 H (𝓖 .A) W (𝓜 .mem) (𝓡 .run) (tables 𝓤 H 𝓜 𝓡 code.env .C) (tables 𝓤 H 𝓜 𝓡 code.env .Λ) (fmOf 𝓤 H (W .laws) (tablesOf 𝓤 H 𝓜 (tables 𝓤 H 𝓜 𝓡 code.env)))
     (cited 𝓤 H (CallerOf 𝓤 H (𝓖 .A) (𝓜 .mem) (𝓡 .run)) 𝓜 𝓡 code.env caller-of-def.name caller-of-def.routine code.calls-nwk·judge·caller-of (caller-of-thm.met 𝓤 H 𝓜 𝓖 𝓡))
-    (cited 𝓤 H (Held 𝓤 H (𝓖 .A) (𝓜 .mem) (𝓡 .run)) 𝓜 𝓡 code.env held-def.name held-def.routine code.calls-nwk·stub·held (held-thm.met 𝓤 H 𝓜 𝓖 𝓡))
+    (cited 𝓤 H (Held 𝓤 H (𝓖 .A) (𝓜 .mem) (𝓡 .run)) 𝓜 𝓡 code.env held-def.name held-def.routine code.calls-counter-rows·held (held-thm.met 𝓤 H 𝓜 𝓖 𝓡))
     (cited 𝓤 H (Judge 𝓤 H (𝓖 .A) (𝓜 .mem) (𝓡 .run)) 𝓜 𝓡 code.env judge-def.name judge-def.routine code.calls-nwk·judge·judge (judge-thm.met 𝓤 H 𝓜 𝓖 𝓡))
-    (cited 𝓤 H (Record 𝓤 H (𝓖 .A) (𝓜 .mem) (𝓡 .run)) 𝓜 𝓡 code.env record′-def.name record′-def.routine code.calls-nwk·stub·record (record′-thm.met 𝓤 H 𝓜 𝓖 𝓡)))
+    (cited 𝓤 H (Record 𝓤 H (𝓖 .A) (𝓜 .mem) (𝓡 .run)) 𝓜 𝓡 code.env record′-def.name record′-def.routine code.calls-counter-rows·record (record′-thm.met 𝓤 H 𝓜 𝓖 𝓡)))
