@@ -10,3 +10,4 @@ pub mod Shared
 pub mod LocalArray
 pub mod Walk
 pub mod Lends
+pub mod LocalValue
