@@ -1,5 +1,6 @@
 pub mod Active
 pub mod Sending
+pub mod SendingLaws
 pub mod Keys
 pub mod KeyLaws
 pub mod Pairs

@@ -1,6 +1,5 @@
 -- A call in a walk, of a function of which no more is known than its contract.
 --     answers      the callee has returned v, which is r: the caller has its tokens back, and what the contract ensures of r
---     tells        the same of a callee that is lent nothing, and whose contract ensures a fact: the caller knows the fact, and has what it had
 --     gives        the callee's contract ensures that r is r₀: what lands is r₀'s machine value, and the caller has its tokens back
 -- Assumes `Given`.
 use mathlib.Core.Path.{_≡_, _∙_, ap, sym, subst}
@@ -36,11 +35,6 @@ module _ {M : Type 1} {𝓤 : URA M} {H : Heap 𝓤} {A : Atoms 𝓤} {K : Type 
         use1 W (later (some (λ (r : Res (T .signature) (y .0 .0)). (raw (alive 𝓤 H A (T .signature) (y .0 .0) (y .0 .1)) ⊛ ‵ (typeAt (T .signature .result) (y .0 .0) .own r (v ∷ []))) ⊛ raw (ensured 𝓤 H A T c (y .0 .0) (y .0 .3) (y .1) r)))) (id⊢ 𝓤 _) $
         await t tt $ pick t (λ r. split t $ split t $ move t (1 ∷ []) $
         peeks t (typeAt (T .signature .result) (y .0 .0)) (Is (typeAt (T .signature .result) (y .0 .0))) (shows 𝓤 H A (typeAt (T .signature .result) (y .0 .0))) r (v ∷ []) (λ is. drop t $ k v r is)))
-
-    pub tells : (φ : Res (T .signature) (y .0 .0) → Type 0) → ((r : Res (T .signature) (y .0 .0)) → ent 𝓤 (ensured 𝓤 H A T c (y .0 .0) (y .0 .3) (y .1) r) (fact 𝓤 (φ r)))
-        → ((v : Val) (r : Res (T .signature) (y .0 .0)) → Is (typeAt (T .signature .result) (y .0 .0)) r (v ∷ []) → φ r → Seq K W Γ (lands C Λ E d v rest q))
-        → Seq K W (raw (tripleOf 𝓤 H A (T .signature) (closing 𝓤 H A T c) .pre y) ∷ Γ) (runs C Λ E (seq (call f xs d) rest) q)
-    tells φ said k = answers (λ v r is. drop t $ use1 W (raw (fact 𝓤 (φ r))) (said r) $ heard t (φ r) (λ e. k v r is e))
 
     pub gives : (vals : Res (T .signature) (y .0 .0) → List Val) → Tells (typeAt (T .signature .result) (y .0 .0)) (Is (typeAt (T .signature .result) (y .0 .0))) vals → (r₀ : Res (T .signature) (y .0 .0))
         → ((r : Res (T .signature) (y .0 .0)) → ent 𝓤 (ensured 𝓤 H A T c (y .0 .0) (y .0 .3) (y .1) r) (fact 𝓤 (r ≡ r₀)))

@@ -8,6 +8,7 @@ pub mod Slices
 pub mod Again
 pub mod Shared
 pub mod LocalArray
+pub mod Lends
 pub mod Walk
 pub mod Lends
 pub mod LocalValue

@@ -61,6 +61,7 @@ unfoldable pub use prog.Wp.{afterTurn}
 pub use Rattle.walks.specs.Tests.{holds, fails, holds-not, not-equal, not-at}
 pub use Rattle.walks.specs.Turn.{after, Nearer, nearer-wf}
 pub use Rattle.walks.specs.Locals.{empty, full, Local, stack, places, leave, number}
-pub use Rattle.walks.specs.Calls.{answers, tells, gives}
+pub use Rattle.walks.specs.Calls.{answers, gives}
 pub use Rattle.walks.specs.Conclude.{concludes}
 pub use Rattle.walks.specs.Slices.{opens-own, closes-own, looks-own, shuts-own}
+pub use Rattle.walks.specs.Lends.{on-shared, on-again, on-ref, off-shared, off-again, off-ref, token, learns}

@@ -45,9 +45,6 @@ other : (n : ℕ) → T (not (eqb n 4294967295)) → took (the n) (rec (n + 1)) 
 unfolding taken
 other n t = rw (fails (eqb n 4294967295) t)
 
-more-fits : (n : ℕ) → n < 2 ^ 32 → T (not (eqb n 4294967295)) → n + 1 < 2 ^ 32
-more-fits n fits t = let ne : n ≡ 4294967295 → ⊥ = not-equal n 4294967295 t in omega arith
-
 -- ---- their machine values
 abbrev rec-val : ℕ → Val
 rec-val n = vstruct (vcons (vint w32 n) vnil)
@@ -111,10 +108,11 @@ module _ {M : Type 1} (𝓤 : URA M) (H : Heap 𝓤) (A : Atoms 𝓤) (W : Given
         assigns ! (agg ! (and-then ! (load ! (from ! (stop !)) (look ! 9 refl)) (and-then ! (lit ! tt) (no-more !)))) (from ! (stop !)) (init ! 19 refl (LL.lawful R.the-type R′.the-laws 𝓤 H A W .typed none-left _ none-is .0)) $
         closes ! tt T.the-row (rec n) (rec-val n ∷ []) b o $
         returns-within ! Post refl (look ! 17 refl) $ leave ! (Closed n) (Locals (some _) (some _) (some _) (some _) (some _) none none) $ exits n none-left none-is (last n t))
-        (λ t. let fits₁ : n + 1 < 2 ^ 32 = more-fits n fits t in
+        (λ t. let ne : n ≡ 4294967295 → ⊥ = not-equal n 4294967295 t in
+        let fits₁ : n + 1 < 2 ^ 32 = omega arith in
         skips ! $ exec ! C Λ En mir′.t-4 (atRet En Post) $
-        assigns ! (bin ! (load ! (from ! (stop !)) (look ! 15 refl)) (lit ! tt) (record { fits = fits₁ })) (from ! (stop !)) (init ! 7 refl (tt, record { fits = fits₁ })) $
-        assigns ! (of-opd ! (load ! (from ! (stop !)) (look ! 7 refl))) (from ! (hop ! (look ! 17 refl) (fld ! refl (stop !)))) (store-in ! 0 (sub ! 0 refl (whole !)) (tt, record { fits = fits₁ })) $
+        assigns ! (bin ! (load ! (from ! (stop !)) (look ! 15 refl)) (lit ! tt) (record { fits = omega arith })) (from ! (stop !)) (init ! 7 refl (tt, record { fits = omega arith })) $
+        assigns ! (of-opd ! (load ! (from ! (stop !)) (look ! 7 refl))) (from ! (hop ! (look ! 17 refl) (fld ! refl (stop !)))) (store-in ! 0 (sub ! 0 refl (whole !)) (tt, record { fits = omega arith })) $
         assigns ! (agg ! (and-then ! (lit ! tt) (no-more !))) (from ! (stop !)) (init ! 5 refl (LE.lawful O.the-type O′.the-laws 𝓤 H A W tt .typed Done _ done-is .0)) $
         assigns ! (agg ! (and-then ! (load ! (from ! (stop !)) (look ! 5 refl)) (and-then ! (load ! (from ! (stop !)) (look ! 15 refl)) (no-more !)))) (from ! (stop !)) (init ! 19 refl (LL.lawful R.the-type R′.the-laws 𝓤 H A W .typed (the n) _ (the-is n fits) .0)) $
         move ! (1 ∷ []) $ drop ! $ owned ! T.the-row (Is T.the-row) (LL.makes T.the-type T′.the-plain 𝓤 H A) (rec (n + 1)) _ (rec-is (n + 1) fits₁) $ move ! (1 ∷ 0 ∷ []) $ closes ! tt T.the-row (rec (n + 1)) (rec-val (n + 1) ∷ []) b o $

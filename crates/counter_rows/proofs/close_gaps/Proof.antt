@@ -53,7 +53,7 @@ module _ {M : Type 1} (𝓤 : URA M) (H : Heap 𝓤) (A : Atoms 𝓤) (W : Given
   Rest = owns (usize ∷ u8 ∷ []) (x .1) (at .1)
 
   abbrev Front : List CounterRow → List (Item 𝓤)
-  Front l = ‵ (MutSlice (named 0) κ T.the-row .own (lent l) (sv ∷ [])) ∷ ‵ (flft κ q) ∷ ‵ Rest ∷ []
+  Front l = ‵ (flft κ q) ∷ ‵ (MutSlice (named 0) κ T.the-row .own (lent l) (sv ∷ [])) ∷ ‵ Rest ∷ []
 
   abbrev Post : Val → SProp 𝓤
   Post = walkOf 𝓤 H A f.ended stayed (f.clauses 𝓤 H A at-mem run) .post (((κ, tt), (q, tt), tt, x, at), tt)
@@ -64,7 +64,7 @@ module _ {M : Type 1} (𝓤 : URA M) (H : Heap 𝓤) (A : Atoms 𝓤) (W : Given
   exits : (zs : List CounterRow) (r : ℕ) → length zs ≡ length ys → r < 2 ^ 64 → Said r zs → Sq W (Front zs) (prop (Post (vint w64 r)))
   exits zs r same fits said =
       suffices ! _ (ends-at 𝓤 H A f.ended stayed (f.clauses 𝓤 H A at-mem run) W (((κ, tt), (q, tt), tt, x, at), tt) (vint w64 r) r (zs, (tt, (tt, tt))) (same, (tt, (tt, tt)))) $ says ! said $
-      move ! (0 ∷ 2 ∷ []) $ fjoin ! $ nothing ! $ move ! (2 ∷ 0 ∷ []) $ join ! $ frame ! $ frame ! $ number ! w64 r fits $ done !
+      move ! (1 ∷ 2 ∷ []) $ fjoin ! $ nothing ! $ move ! (2 ∷ 0 ∷ []) $ join ! $ frame ! $ frame ! $ number ! w64 r fits $ done !
 
   module _ (𝓣 : Tables 𝓤 H) (l₀ l₁ l₂ l₃ l₄ l₅ l₆ l₇ l₈ l₉ l₁₀ l₁₁ l₁₂ l₁₃ l₁₄ : ℕ) where
     abbrev C : Calls 𝓤 H
@@ -195,7 +195,7 @@ module _ {M : Type 1} (𝓤 : URA M) (H : Heap 𝓤) (A : Atoms 𝓤) (W : Given
       pass1 ! (init ! 26 refl (tt, (tt, (record { fits = room .0 }, tt)))) $ pass1 ! (init ! 24 refl (tt, record { fits = used-fits })) $ pass1 ! (init ! 22 refl (tt, record { fits = n-fits })) $ pass0 ! $
       assigns ! (of-opd ! (lit ! tt)) (from ! (stop !)) (init ! 20 refl (tt, record { fits = lit< tt })) $ assigns ! (of-opd ! (lit ! tt)) (from ! (stop !)) (init ! 18 refl (tt, record { fits = lit< tt })) $
       -- the borrow is opened
-      move ! (31 ∷ []) $ fsplit ! $ move ! (32 ∷ []) $ split ! $ move ! (1 ∷ []) $ drop ! $ move ! (1 ∷ 0 ∷ []) $ opens-own ! tt T.the-row b o ys $
+      move ! (31 ∷ []) $ fsplit ! $ move ! (32 ∷ []) $ split ! $ move ! (1 ∷ []) $ drop ! $ opens-own ! tt T.the-row b o ys $
       first ! $ blocks ! $ looped 𝓣 l₀ l₁ l₂ l₃ l₄ l₅ l₆ l₇ l₈ l₉ l₁₀ l₁₁ l₁₂ l₁₃ l₁₄ (record { i = 0; g = 0; counts = refl; within = omega arith }))))))))))))))))
 
 module _ {M : Type 1} (𝓤 : URA M) (H : Heap 𝓤) (A : Atoms 𝓤) (W : Given 𝓤 H A) where

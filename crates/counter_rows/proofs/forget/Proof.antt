@@ -2,10 +2,8 @@
 -- Assumes nothing.
 use denote.Struct.Laws as LL
 use denote.Enum.Laws as LE
-use types.Kit.{some as some′}
 use mathlib.Core.Option.{Option, none, some}
-use Rattle.walks.specs.Walk.{ !, AllGo, Atoms, Calls, Contract, Env, Fml, FmC, Fun, GName, Given, Heap, Is, Item, Lft, List, Local, Loops, Memory, MutSlice, RefT, Room, Routine, SProp, Share, Sq, Stays, T, Tables, Triple, URA, Val, Walks, WpFn, [], _$_, _++_, _<_, _^_, _∙_, _∵_, _≡_, _≤_, _⊛_, _∷_, addr, agg, alloc0, alloc1, and-then, answers, ap, arith, assigns, atRet, await, bin, branches, cited, concludes, done, drop, emp, ends-at, ent, enter, erased, exec, fact, fat, feqL, first, fjoin, fld, flft, fmOf, frame, from, fsplit, fst∗, ftrue, fullShare, gives, givenOf, goes-none, goes-slice, heard, hop, holds, id⊢, init, join, land, lasts, later, leave, length, lft-end, lft-new, lit, load, look, look-in, ltb, ltb-true, move, mut, mut-slice-tells, named, nltb→le, no-more, nothing, number, of-opd, only, onEntry, owned, owns, params1, pass0, pass1, pick, places, plain, prop, qed, raw, refl, returns, returns-within, rewrite, runs, says, skips, slice-vals, sliceVal, split, stack, stay-none, stay-slice, stop, store, sub, subst, suffices, sym, tables, tablesOf, tripleOf, tyBool, tyInt, u8, uint-lawful, uint-tells, uint-vals, use0, use1, use2, use3, usize, via, vint, w64, w8, walkOf, walked, whole, yes, ‵, ⋆, ℕ}
-use Rattle.walks.specs.Again.{LentAgain, lends-again, comes-back}
+use Rattle.walks.specs.Walk.{ !, AllGo, Atoms, Calls, Contract, Env, Fml, FmC, Fun, GName, Given, Heap, Is, Item, Lft, List, Local, Loops, Memory, MutSlice, RefT, Room, Routine, SProp, Share, Sq, Stays, T, Tables, Triple, URA, Val, Walks, WpFn, [], _$_, _++_, _<_, _^_, _∙_, _∵_, _≡_, _≤_, _⊛_, _∷_, addr, agg, alloc0, alloc1, and-then, arith, assigns, atRet, bin, branches, cited, concludes, done, drop, emp, ends-at, ent, enter, erased, exec, feqL, first, fjoin, fld, flft, fmOf, frame, from, fsplit, fst∗, ftrue, fullShare, gives, givenOf, goes-none, goes-slice, hop, holds, id⊢, init, join, land, leave, length, lit, load, look, look-in, ltb, ltb-true, move, mut, mut-slice-tells, named, nltb→le, no-more, nothing, number, of-opd, off-again, on-again, learns, onEntry, owned, owns, params1, pass0, pass1, places, plain, prop, qed, raw, refl, returns, returns-within, runs, says, skips, slice-vals, sliceVal, split, stack, stay-none, stay-slice, stop, store, sub, suffices, sym, tables, token, tablesOf, tripleOf, tyBool, tyInt, u8, uint-tells, uint-vals, use0, use2, usize, via, vint, w64, w8, walkOf, walked, whole, yes, ‵, ⋆, ℕ}
 use Rattle.answer.specs.declared.Outcome.the-variants.{Done, Refused}
 use Rattle.answer.specs.declared.Refusal.the-variants.{Unsupported}
 use Rattle.answer.proofs.Values.{done-is, refused-is}
@@ -70,12 +68,12 @@ module _ {M : Type 1} (𝓤 : URA M) (H : Heap 𝓤) (A : Atoms 𝓤) (W : Given
   Post = walkOf 𝓤 H A f.ended stayed (f.clauses 𝓤 H A mem run) .post (((κ, tt), (q, tt), tt, x γ, at), tt)
 
   abbrev Front : List CounterRow → List (Item 𝓤)
-  Front l = ‵ (Own κ γ l) ∷ ‵ (flft κ q) ∷ ‵ Rest ∷ []
+  Front l = ‵ (flft κ q) ∷ ‵ (Own κ γ l) ∷ ‵ Rest ∷ []
 
   exits : (l : List CounterRow) (r : Recorded) → length l ≡ length ys → Is R.the-row r (val r ∷ []) → left r l ≡ forgotten ys used n → Sq W (Front l) (prop (Post (val r)))
   exits l r same is said =
       suffices ! _ (ends-at 𝓤 H A f.ended stayed (f.clauses 𝓤 H A mem run) W (((κ, tt), (q, tt), tt, x γ, at), tt) (val r) r (l, (tt, (tt, tt))) (same, (tt, (tt, tt)))) $ says ! said $
-      move ! (0 ∷ 2 ∷ []) $ fjoin ! $ nothing ! $ move ! (2 ∷ 0 ∷ []) $ join ! $ frame ! $ frame ! $ owned ! R.the-row (Is R.the-row) (LL.makes R.the-type R′.the-plain 𝓤 H A) r _ is $ done !
+      move ! (1 ∷ 2 ∷ []) $ fjoin ! $ nothing ! $ move ! (2 ∷ 0 ∷ []) $ join ! $ frame ! $ frame ! $ owned ! R.the-row (Is R.the-row) (LL.makes R.the-type R′.the-plain 𝓤 H A) r _ is $ done !
 
   -- the call of `close_gaps`, the rows lent for the lifetime ν under the name δ
   module _ (ν : ℕ) (δ : GName) where
@@ -126,22 +124,18 @@ module _ {M : Type 1} (𝓤 : URA M) (H : Heap 𝓤) (A : Atoms 𝓤) (W : Given
         assigns ! (addr ! (from ! (fld ! refl (hop ! (look-in ! 23 (sub ! 0 refl (whole !))) (stop !))))) (from ! (stop !)) (init ! 5 refl (tt, tt)) $
         assigns ! (agg ! (and-then ! (load ! (from ! (stop !)) (look ! 5 refl)) (and-then ! (load ! (from ! (fld ! refl (stop !))) (look-in ! 23 (sub ! 1 refl (whole !)))) (no-more !)))) (from ! (stop !)) (init ! 3 refl (tt, (tt, (record { fits = room .0 }, tt)))) $
         -- close_gaps(rows, used, number): the rows are lent, and come back closed
-        lft-new ! tt (λ ν. move ! (1 ∷ 2 ∷ []) $
-        use2 W (later (some′ (λ (δ : GName). ‵ (Own (ν ∷ []) δ ys) ⊛ ‵ (LentAgain T.the-row κ (ν ∷ []) q γ b o δ ys)))) (lends-again T.the-row κ (ν ∷ []) q γ b o 𝓤 H A W (named 0) (named 0) ys) $ await ! tt $ pick ! (λ δ. split ! $ move ! (2 ∷ 0 ∷ []) $
+        on-again ! T.the-row (named 0) (named 0) κ q γ b o ys (λ ν δ.
         use2 W (raw (CloseGaps 𝓤 H A mem run .pre (to-gaps ν δ))) (goes-gaps ν δ in-use) $
-        answers ! fm gaps.ended (gaps.clauses 𝓤 H A mem run) known-gaps (to-gaps ν δ) (and-then ! (load ! (from ! (stop !)) (look ! 3 refl)) (and-then ! (load ! (from ! (stop !)) (look ! 21 refl)) (and-then ! (load ! (from ! (stop !)) (look ! 19 refl)) (no-more !)))) (λ v r is₂.
-        move ! (1 ∷ []) $ use1 W (some′ (λ (zs : List CounterRow × (Unit {0} × (Unit {0} × Unit {0}))). ‵ (lasts gaps.ended (ν ∷ [], tt) (x δ) zs) ⊛ raw (fact 𝓤 (Said r (zs .0))))) (id⊢ 𝓤 _) $ pick ! (λ zs.
-        split ! $ move ! (1 ∷ []) $ heard ! (Said r (zs .0)) (λ e. fsplit ! $ fsplit ! $ move ! (1 ∷ []) $ feqL ! (λ same.
+        learns ! fm gaps.ended (gaps.clauses 𝓤 H A mem run) known-gaps (to-gaps ν δ) (and-then ! (load ! (from ! (stop !)) (look ! 3 refl)) (and-then ! (load ! (from ! (stop !)) (look ! 21 refl)) (and-then ! (load ! (from ! (stop !)) (look ! 19 refl)) (no-more !))))
+        (uint-vals w64) (uint-tells w64) (λ r zs. Said r (zs .0)) (λ r zs. id⊢ 𝓤 _) (λ m zs is₂ e.
+        let is₃ = answer-is (finished m) done-is (is₂ .1) in
+        -- [the token; the last list, and that it is as long; the lender's part; the numbers'; _11; …]
+        land ! (from ! (stop !)) (store ! 16 refl (tt, record { fits = is₂ .1 })) $ move ! (1 ∷ []) $ fsplit ! $ fsplit ! $ move ! (1 ∷ []) $ feqL ! (λ same.
         -- [the last list; true; the token; the lender's part; the numbers'; _11; …]
-        let m : ℕ = length (kept n used ys) in
-        let fits : m < 2 ^ 64 = subst (λ (j : ℕ). j < 2 ^ 64) (e .0) (is₂ .1) in
-        let is₃ = answer-is (finished m) done-is fits in
-        land ! (from ! (stop !)) (store ! 17 refl (uint-lawful 𝓤 H A W w64 .typed r _ is₂ .0)) $ rewrite ! 17 (λ (u : Val). ‵ (fat fullShare (tyInt w64) l₅ 0 u)) (ap only (is₂ .0) ∙ ap (vint w64) (e .0)) refl $
-        move ! (2 ∷ []) $ use1 W (‵ (flft (ν ∷ []) fullShare) ⊛ ‵ ftrue) (id⊢ 𝓤 _) $ split ! $ lft-end ! tt $ move ! (0 ∷ 4 ∷ 2 ∷ []) $
-        use3 W (later (‵ (Own κ γ (zs .0)) ⊛ ‵ (flft κ q))) (comes-back T.the-row κ (ν ∷ []) q γ b o 𝓤 H A W (named 0) (named 0) ys δ (zs .0) room same) $ await ! tt $ split ! $ move ! (2 ∷ []) $ drop ! $ move ! (2 ∷ []) $ drop ! $
+        move ! (2 ∷ []) $ token ! (ν ∷ []) fullShare $ move ! (0 ∷ 3 ∷ 1 ∷ []) $ off-again ! T.the-row (named 0) (named 0) κ q γ b o ys room ν δ (zs .0) same $ move ! (2 ∷ []) $ drop ! $
         assigns ! (agg ! (and-then ! (load ! (from ! (stop !)) (look ! 7 refl)) (and-then ! (load ! (from ! (stop !)) (look ! 15 refl)) (no-more !)))) (from ! (stop !)) (init ! 25 refl (typed 𝓤 H A W (finished m) is₃)) $
         returns ! (look ! 25 refl) $ leave ! (Front (zs .0)) (Locals (some _) (some _) (some _) (some _) none none (some _) (some _) (some _)) $
-        exits (zs .0) (finished m) same is₃ (ap (left (finished m)) (e .1) ∙ sym (forgotten-closed ys used n few))))))))))
+        exits (zs .0) (finished m) same is₃ ((λ i. left (finished (e .0 i)) (e .1 i)) ∙ sym (forgotten-closed ys used n few)))))))
 
   walk : (C : Calls 𝓤 H) (Λ : Loops 𝓤 H) → FmC 𝓤 H (W .laws) C → Triple 𝓤 (C cap-code.name) (Capacity 𝓤 H A mem run) → Triple 𝓤 (C gaps-code.name) (CloseGaps 𝓤 H A mem run)
       → ent 𝓤 (onEntry 𝓤 H A f.signature (κ, tt) (q, tt) (x γ) at) (WpFn 𝓤 H C Λ code.function (sv ∷ vint w64 used ∷ vint w8 n ∷ []) Post)
@@ -149,7 +143,7 @@ module _ {M : Type 1} (𝓤 : URA M) (H : Heap 𝓤) (A : Atoms 𝓤) (W : Given
       qed W ((‵ (flft κ q) ⊛ ‵ ftrue) ∷ ‵ (owns (MutSlice (named 0) κ T.the-row ∷ usize ∷ u8 ∷ []) (x γ) at) ∷ []) ∵ enter ! C Λ code.function (sv ∷ vint w64 used ∷ vint w8 n ∷ []) _ $
       alloc1 ! (λ l₀. alloc1 ! (λ l₁. alloc1 ! (λ l₂. alloc1 ! (λ l₃. alloc1 ! (λ l₄. alloc1 ! (λ l₅. alloc1 ! (λ l₆. alloc1 ! (λ l₇. alloc1 ! (λ l₈. alloc1 ! (λ l₉. alloc1 ! (λ l₁₀. alloc1 ! (λ l₁₁. alloc0 ! $ params1 ! $
       pass1 ! (init ! 20 refl (tt, (tt, (record { fits = room .0 }, tt)))) $ pass1 ! (init ! 18 refl (tt, record { fits = used-fits })) $ pass1 ! (init ! 16 refl (tt, record { fits = n-fits })) $ pass0 ! $
-      move ! (25 ∷ []) $ fsplit ! $ move ! (26 ∷ []) $ split ! $ move ! (1 ∷ []) $ drop ! $ move ! (1 ∷ 0 ∷ []) $
+      move ! (25 ∷ []) $ fsplit ! $ move ! (26 ∷ []) $ split ! $ move ! (1 ∷ []) $ drop ! $
       body C Λ fm kc kg l₀ l₁ l₂ l₃ l₄ l₅ l₆ l₇ l₈ l₉ l₁₀ l₁₁))))))))))))
 
 module _ {M : Type 1} (𝓤 : URA M) (H : Heap 𝓤) (A : Atoms 𝓤) (W : Given 𝓤 H A) where

@@ -3,7 +3,7 @@
 use denote.Struct.Laws as LL
 use denote.Enum.Laws as LE
 use mathlib.Core.Option.{Option, none, some}
-use Rattle.walks.specs.Walk.{ !, AllGo, Atoms, Calls, Env, Fml, FmC, Fun, GName, Given, Heap, Is, Item, Lft, List, Local, Loops, Memory, RefT, Room, Routine, SProp, Share, ShrSlice, Sq, Stays, T, Tables, Triple, URA, Val, Walks, WT, WpFn, [], _$_, _*_, _++_, _<_, _^_, _∵_, _≡_, _≤_, _⊛_, _∷_, agg, alloc0, alloc1, and-then, arith, assigns, atRet, bin, branches, cited, concludes, done, drop, elem-back, elem-out, emp, ends-at, ent, enter, eqb→eq, exec, false-lit, false, fat, first, fjoin, fld, flft, fmOf, frame, from, fsplit, fst∗, ftrue, fullShare, getD, hasTy, gives, givenOf, goes-none, goes-none-slice, hop, holds, id⊢, imm, init, join, land, leave, length, lit, load, look, look-in, look-raw, looks-own, ltb, ltb-true, move, named, nltb→le, no-more, not-at, nothing, of-opd, only, onEntry, owned, owns, params1, pass0, pass1, place-is, places, plain, prop, qed, raw, refl, returns, returns-within, rewrite, runs, says, shows, shr-slice-copy, shr-slice-tells, shuts-own, skips, slice-vals, sliceVal, split, stack, stay-none, stay-none-slice, stop, store, sub, suffices, sym, tables, tablesOf, true-lit, true, tyBool, tyInt, tyPtr, u64, u8, uint-tells, uint-vals, use0, use1, use2, usize, via, vint, vptr, w64, w8, walkOf, walked, whole, yes, ‵, ℕ}
+use Rattle.walks.specs.Walk.{ !, AllGo, Atoms, Calls, Env, Fml, FmC, Fun, GName, Given, Heap, Is, Item, Lft, List, Local, Loops, Memory, RefT, Room, Routine, SProp, Share, ShrSlice, Sq, Stays, T, Tables, Triple, URA, Val, Walks, WT, WpFn, [], _$_, _*_, _++_, _<_, _^_, _∵_, _≡_, _≤_, _⊛_, _∷_, agg, alloc0, alloc1, and-then, arith, assigns, atRet, bin, branches, cited, concludes, done, drop, elem-back, elem-out, emp, ends-at, ent, enter, eqb→eq, exec, false-lit, false, fat, first, fjoin, fld, flft, fmOf, frame, from, fsplit, fst∗, ftrue, fullShare, getD, hasTy, gives, givenOf, goes-none, goes-none-slice, hop, holds, imm, init, join, land, leave, length, lit, load, look, look-in, look-raw, looks-own, ltb, ltb-true, move, named, nltb→le, no-more, not-at, nothing, of-opd, only, onEntry, owned, owns, params1, pass0, pass1, place-is, places, plain, prop, qed, raw, refl, returns, returns-within, rewrite, runs, says, shows, shr-slice-copy, shr-slice-tells, shuts-own, skips, slice-vals, sliceVal, split, stack, stay-none, stay-none-slice, stop, store, sub, suffices, sym, tables, token, tablesOf, true-lit, true, tyBool, tyInt, tyPtr, u64, u8, uint-tells, uint-vals, use0, use1, use2, usize, via, vbool, vint, vptr, w64, w8, walkOf, walked, whole, yes, ‵, ℕ}
 use Rattle.nib.specs.Counters.{pair, capacity, empty, heldFor}
 use Rattle.nib.specs.CounterLaws.{at as placed, at-le, held-over, held-none, held-row}
 use Rattle.nib.specs.declared.counters.CounterRow.{CounterRow}
@@ -87,10 +87,10 @@ module _ {M : Type 1} (𝓤 : URA M) (H : Heap 𝓤) (A : Atoms 𝓤) (W : Given
   typed : (r : Standing) → Is K.the-row (r .known) (LE.vals K.the-type K′.the-laws (r .known)) → T (hasTy R′.mir (val r)) × WT (val r)
   typed r is = LL.lawful R.the-type R′.the-laws 𝓤 H A W .typed r _ (standing-is r is) .0
 
-  exits : (r : Standing) → Is K.the-row (r .known) (LE.vals K.the-type K′.the-laws (r .known)) → r ≡ heldFor ys used (pair n s) → Sq W (‵ Own ∷ ‵ (flft κ q) ∷ ‵ Rest ∷ []) (prop (Post (val r)))
+  exits : (r : Standing) → Is K.the-row (r .known) (LE.vals K.the-type K′.the-laws (r .known)) → r ≡ heldFor ys used (pair n s) → Sq W (‵ (flft κ q) ∷ ‵ Own ∷ ‵ Rest ∷ []) (prop (Post (val r)))
   exits r is e =
       suffices ! _ (ends-at 𝓤 H A f.ended stayed (f.clauses 𝓤 H A mem run) W (((κ, tt), (q, tt), tt, x, at), tt) (val r) r (tt, (tt, (tt, (tt, tt)))) (tt, (tt, (tt, (tt, tt))))) $ says ! e $
-      move ! (0 ∷ 2 ∷ []) $ fjoin ! $ nothing ! $ move ! (2 ∷ 0 ∷ []) $ join ! $ frame ! $ frame ! $ owned ! R.the-row (Is R.the-row) (LL.makes R.the-type R′.the-plain 𝓤 H A) r _ (standing-is r is) $ done !
+      move ! (1 ∷ 2 ∷ []) $ fjoin ! $ nothing ! $ move ! (2 ∷ 0 ∷ []) $ join ! $ frame ! $ frame ! $ owned ! R.the-row (Is R.the-row) (LL.makes R.the-type R′.the-plain 𝓤 H A) r _ (standing-is r is) $ done !
 
   module _ (C : Calls 𝓤 H) (Λ : Loops 𝓤 H) (fm : FmC 𝓤 H (W .laws) C) (known-capacity : Triple 𝓤 (C cap-code.name) (Capacity 𝓤 H A mem run)) (known-place : Triple 𝓤 (C place-code.name) (PlaceOf 𝓤 H A mem run))
       (l₀ l₁ l₂ l₃ l₄ l₅ l₆ l₇ l₈ l₉ l₁₀ l₁₁ l₁₂ l₁₃ l₁₄ l₁₅ : ℕ) where
@@ -108,7 +108,7 @@ module _ {M : Type 1} (𝓤 : URA M) (H : Heap 𝓤) (A : Atoms 𝓤) (W : Given
 
     -- what stands in front of the locals
     abbrev Front : List (Item 𝓤)
-    Front = ‵ Own ∷ ‵ (flft κ q) ∷ ‵ Rest ∷ []
+    Front = ‵ (flft κ q) ∷ ‵ Own ∷ ‵ Rest ∷ []
 
     body : Sq W (Front ++ stack Start []) (runs C Λ En mir′.t-1 (atRet En Post))
     body =
@@ -127,15 +127,15 @@ module _ {M : Type 1} (𝓤 : URA M) (H : Heap 𝓤) (A : Atoms 𝓤) (W : Given
         let in-use : used ≤ length ys = omega arith in
         -- at = place_of(rows, used, number, sender)
         skips ! $ exec ! C Λ En mir′.t-5 (atRet En Post) $
-        use1 W (‵ Own ⊛ ‵ Own) (shr-slice-copy 𝓤 H A W (named 0) κ T.the-row .twice ref (sv ∷ [])) $ split ! $ move ! (2 ∷ 0 ∷ []) $
+        move ! (1 ∷ []) $ use1 W (‵ Own ⊛ ‵ Own) (shr-slice-copy 𝓤 H A W (named 0) κ T.the-row .twice ref (sv ∷ [])) $ split ! $ move ! (2 ∷ 0 ∷ []) $
         use2 W (raw (PlaceOf 𝓤 H A mem run .pre (to-place 𝓤 H A mem run W κ q b o γ ys used n s))) (goes-place 𝓤 H A mem run W κ q b o γ ys used n s in-use used-fits n-fits s-fits) $
         gives ! fm place.ended (place.clauses 𝓤 H A mem run) known-place (to-place 𝓤 H A mem run W κ q b o γ ys used n s)
         (and-then ! (load ! (from ! (stop !)) (look ! 31 refl)) (and-then ! (load ! (from ! (stop !)) (look ! 29 refl)) (and-then ! (load ! (from ! (stop !)) (look ! 27 refl)) (and-then ! (load ! (from ! (stop !)) (look ! 25 refl)) (no-more !)))))
         (uint-vals w64) (uint-tells w64) Place (place-said 𝓤 H A mem run W κ q b o γ ys used n s) (λ is₁. land ! (from ! (stop !)) (init ! 21 refl (tt, record { fits = is₁ .1 })) $
-        use1 W (‵ (flft κ q) ⊛ ‵ ftrue) (id⊢ 𝓤 _) $ split ! $ move ! (1 ∷ []) $ drop ! $ move ! (1 ∷ 0 ∷ []) $
+        token ! κ q $
         assigns ! (bin ! (load ! (from ! (stop !)) (look ! 21 refl)) (load ! (from ! (stop !)) (look ! 29 refl)) tt) (from ! (stop !)) (store ! 15 refl (tt, tt)) $
         first ! $ branches ! (load ! (from ! (stop !)) (look ! 15 refl))
-        (λ u. assigns ! (bin ! (load ! (from ! (stop !)) (look ! 29 refl)) (load ! (from ! (stop !)) (look ! 23 refl)) tt) (from ! (stop !)) (init ! 11 refl (tt, tt)) $
+        (λ u. assigns ! (bin ! (load ! (from ! (stop !)) (look ! 29 refl)) (load ! (from ! (stop !)) (look ! 23 refl)) tt) (from ! (stop !)) (init ! 11 {v = vbool (ltb used cap′)} refl (tt, tt)) $
         assigns ! (agg ! (and-then ! (lit ! tt) (no-more !))) (from ! (stop !)) (init ! 9 refl (LE.lawful K.the-type K′.the-laws 𝓤 H A W tt .typed Nothing _ nothing-is .0)) $
         assigns ! (agg ! (and-then ! (load ! (from ! (stop !)) (look ! 11 refl)) (and-then ! (load ! (from ! (stop !)) (look ! 9 refl)) (no-more !)))) (from ! (stop !)) (init ! 33 refl (typed not-there nothing-is)) $
         returns-within ! Post refl (look ! 33 refl) $ leave ! Front (Locals (some _) (some _) (some _) none (some _) (some _) none (some _) (some _) none none none) $
@@ -167,7 +167,7 @@ module _ {M : Type 1} (𝓤 : URA M) (H : Heap 𝓤) (A : Atoms 𝓤) (W : Given
       qed W ((‵ (flft κ q) ⊛ ‵ ftrue) ∷ ‵ (owns (ShrSlice (named 0) κ T.the-row ∷ usize ∷ u8 ∷ u64 ∷ []) x at) ∷ []) ∵ enter ! C Λ code.function (sv ∷ vint w64 used ∷ vint w8 n ∷ vint w64 s ∷ []) _ $
       alloc1 ! (λ l₀. alloc1 ! (λ l₁. alloc1 ! (λ l₂. alloc1 ! (λ l₃. alloc1 ! (λ l₄. alloc1 ! (λ l₅. alloc1 ! (λ l₆. alloc1 ! (λ l₇. alloc1 ! (λ l₈. alloc1 ! (λ l₉. alloc1 ! (λ l₁₀. alloc1 ! (λ l₁₁. alloc1 ! (λ l₁₂. alloc1 ! (λ l₁₃. alloc1 ! (λ l₁₄. alloc1 ! (λ l₁₅. alloc0 ! $ params1 ! $
       pass1 ! (init ! 28 refl (tt, (tt, (record { fits = room .0 }, tt)))) $ pass1 ! (init ! 26 refl (tt, record { fits = used-fits })) $ pass1 ! (init ! 24 refl (tt, record { fits = n-fits })) $ pass1 ! (init ! 22 refl (tt, record { fits = s-fits })) $ pass0 ! $
-      move ! (33 ∷ []) $ fsplit ! $ move ! (34 ∷ []) $ split ! $ move ! (1 ∷ []) $ drop ! $ move ! (1 ∷ 0 ∷ []) $
+      move ! (33 ∷ []) $ fsplit ! $ move ! (34 ∷ []) $ split ! $ move ! (1 ∷ []) $ drop ! $
       body C Λ fm kc kp l₀ l₁ l₂ l₃ l₄ l₅ l₆ l₇ l₈ l₉ l₁₀ l₁₁ l₁₂ l₁₃ l₁₄ l₁₅))))))))))))))))
 
 module _ {M : Type 1} (𝓤 : URA M) (H : Heap 𝓤) (A : Atoms 𝓤) (W : Given 𝓤 H A) where

@@ -59,10 +59,10 @@ module _ {M : Type 1} (𝓤 : URA M) (H : Heap 𝓤) (A : Atoms 𝓤) (W : Given
   abbrev Post : Val → SProp 𝓤
   Post = walkOf 𝓤 H A f.ended stayed (f.clauses 𝓤 H A at-mem run) .post (((κ, tt), (q, tt), tt, x, at), tt)
 
-  exits : (r : ℕ) → r < 2 ^ 64 → r ≡ Place → Sq W (‵ Own ∷ ‵ (flft κ q) ∷ ‵ Rest ∷ []) (prop (Post (vint w64 r)))
+  exits : (r : ℕ) → r < 2 ^ 64 → r ≡ Place → Sq W (‵ (flft κ q) ∷ ‵ Own ∷ ‵ Rest ∷ []) (prop (Post (vint w64 r)))
   exits r fits e =
       suffices ! _ (ends-at 𝓤 H A f.ended stayed (f.clauses 𝓤 H A at-mem run) W (((κ, tt), (q, tt), tt, x, at), tt) (vint w64 r) r (tt, (tt, (tt, (tt, tt)))) (tt, (tt, (tt, (tt, tt))))) $ says ! e $
-      move ! (0 ∷ 2 ∷ []) $ fjoin ! $ nothing ! $ move ! (2 ∷ 0 ∷ []) $ join ! $ frame ! $ frame ! $ number ! w64 r fits $ done !
+      move ! (1 ∷ 2 ∷ []) $ fjoin ! $ nothing ! $ move ! (2 ∷ 0 ∷ []) $ join ! $ frame ! $ frame ! $ number ! w64 r fits $ done !
 
   module _ (𝓣 : Tables 𝓤 H) (q′ : Share) (l₀ l₁ l₂ l₃ l₄ l₅ l₆ l₇ l₈ l₉ l₁₀ l₁₁ l₁₂ : ℕ) where
     abbrev C : Calls 𝓤 H
@@ -90,7 +90,7 @@ module _ {M : Type 1} (𝓤 : URA M) (H : Heap 𝓤) (A : Atoms 𝓤) (W : Given
     ends : (i r : ℕ) → r < 2 ^ 64 → r ≡ Place → Sq W (Held ++ stack (Locals none i (some (vint w64 r))) []) (runs C Λ En mir′.t-3 (atRet En Post))
     ends i r fits e =
         assigns ! (of-opd ! (load ! (from ! (stop !)) (look ! 14 refl))) (from ! (stop !)) (init ! 28 refl (tt, record { fits = fits })) $
-        shuts-own ! tt T.the-row b o ys q′ $ returns ! (look ! 27 refl) $ leave ! (‵ Own ∷ ‵ (flft κ q) ∷ ‵ Rest ∷ []) (Locals (some (vint w64 r)) i (some (vint w64 r))) $ exits r fits e
+        shuts-own ! tt T.the-row b o ys q′ $ returns ! (look ! 27 refl) $ leave ! (‵ (flft κ q) ∷ ‵ Own ∷ ‵ Rest ∷ []) (Locals (some (vint w64 r)) i (some (vint w64 r))) $ exits r fits e
 
     -- how many rows are ahead, and what is to hold where a turn ends
     abbrev ahead : Pos used n s ys → ℕ
@@ -154,7 +154,7 @@ module _ {M : Type 1} (𝓤 : URA M) (H : Heap 𝓤) (A : Atoms 𝓤) (W : Given
       pass1 ! (init ! 22 refl (tt, (tt, (record { fits = room .0 }, tt)))) $ pass1 ! (init ! 20 refl (tt, record { fits = used-fits })) $ pass1 ! (init ! 18 refl (tt, record { fits = n-fits })) $ pass1 ! (init ! 16 refl (tt, record { fits = s-fits })) $ pass0 ! $
       assigns ! (of-opd ! (lit ! tt)) (from ! (stop !)) (init ! 14 refl (tt, record { fits = lit< tt })) $
       -- the rows are looked into
-      move ! (27 ∷ []) $ fsplit ! $ move ! (28 ∷ []) $ split ! $ move ! (1 ∷ []) $ drop ! $ move ! (1 ∷ 0 ∷ []) $
+      move ! (27 ∷ []) $ fsplit ! $ move ! (28 ∷ []) $ split ! $ move ! (1 ∷ []) $ drop ! $
       looks-own ! tt T.the-row b o ys (Is T.the-row) (shows 𝓤 H A T.the-row) (LL.vals T.the-type T′.the-laws) (LL.tells T.the-type T′.the-laws) (LL.copy T.the-type T′.the-copy 𝓤 H A W) (λ q′.
       first ! $ blocks ! $ looped 𝓣 q′ l₀ l₁ l₂ l₃ l₄ l₅ l₆ l₇ l₈ l₉ l₁₀ l₁₁ l₁₂ (record { i = 0; within = omega arith; passed = start counterRows (pair n s) used ys })))))))))))))))
 

@@ -3,9 +3,7 @@
 use denote.Struct.Laws as LL
 use denote.Enum.Laws as LE
 use mathlib.Core.Option.{Option, none, some}
-use Rattle.walks.specs.Walk.{ !, AllGo, Atoms, Calls, Env, Fml, FmC, Fun, GName, Given, Heap, Is, Item, Lft, List, Local, Loops, Memory, MutSlice, RefT, Room, Routine, SProp, Share, ShrSlice, Sq, Stays, T, Tables, Triple, URA, Val, Walks, WpFn, [], _$_, _*_, _+_, _++_, _<_, _^_, _∵_, _≡_, _≤_, _⊛_, _∷_, addr, agg, alloc0, alloc1, and-then, arith, assigns, atRet, await, bin, branches, cited, closes-own, concludes, done, drop, elem-out, elem-put, emp, ends-at, ent, enter, eqb→eq, erased, exec, fat, first, fjoin, fld, flft, fmOf, frame, from, fsplit, fst∗, ftrue, fullShare, gives, givenOf, goes-none, goes-slice, hop, holds, id⊢, imm, init, join, land, later, leave, length, length-set, lft-end, lft-new, lit, load, look, look-in, ltb, ltb-true, move, mut, mut-slice-tells, named, nltb→le, no-more, not-at, not-equal, nothing, of-opd, onEntry, opens-own, owned, owns, params1, pass0, pass1, pick, place-is, places, plain, prop, qed, raw, refl, returns, returns-within, rewrite, runs, says, set, shows, skips, slice-vals, sliceVal, split, stack, stay-none, stay-slice, stop, store, store-raw, sub, suffices, sym, tables, tablesOf, tyBool, tyInt, tyPtr, u32, u64, u8, uint-tells, uint-vals, use0, use1, use2, usize, via, vint, vptr, w32, w64, w8, walkOf, walked, whole, yes, ‵, ℕ}
-use Rattle.walks.specs.Shared.{LentShared, lends-shared, shared-back}
-use types.Kit.{some as some′}
+use Rattle.walks.specs.Walk.{ !, AllGo, Atoms, Calls, Env, Fml, FmC, Fun, GName, Given, Heap, Is, Item, Lft, List, Local, Loops, Memory, MutSlice, RefT, Room, Routine, SProp, Share, Sq, Stays, T, Tables, Triple, URA, Val, Walks, WpFn, [], _$_, _*_, _+_, _++_, _<_, _^_, _∵_, _≡_, _≤_, _⊛_, _∷_, addr, agg, alloc0, alloc1, and-then, arith, assigns, atRet, bin, branches, cited, closes-own, concludes, done, drop, elem-out, elem-put, emp, ends-at, ent, enter, eqb→eq, erased, exec, fat, first, fjoin, fld, flft, fmOf, frame, from, fsplit, fst∗, ftrue, fullShare, gives, givenOf, goes-none, goes-slice, hop, holds, imm, init, join, land, leave, length, length-set, lit, load, look, look-in, ltb, ltb-true, move, mut, mut-slice-tells, named, nltb→le, no-more, not-at, not-equal, nothing, of-opd, off-shared, on-shared, onEntry, opens-own, owned, owns, params1, pass0, pass1, place-is, places, plain, prop, qed, raw, refl, returns, returns-within, rewrite, runs, says, set, shows, skips, slice-vals, sliceVal, split, stack, stay-none, stay-slice, stop, store, store-raw, sub, suffices, sym, tables, token, tablesOf, tyBool, tyInt, tyPtr, u32, u64, u8, uint-tells, uint-vals, use0, use2, usize, via, vint, vptr, w32, w64, w8, walkOf, walked, whole, yes, ‵, ℕ}
 use Rattle.answer.specs.declared.Outcome.the-variants.{Done, Refused}
 use Rattle.answer.specs.declared.Refusal.the-variants.{Unsupported, TableFull}
 use Rattle.answer.proofs.Values.{done-is, refused-is}
@@ -79,12 +77,12 @@ module _ {M : Type 1} (𝓤 : URA M) (H : Heap 𝓤) (A : Atoms 𝓤) (W : Given
   Post = walkOf 𝓤 H A f.ended stayed (f.clauses 𝓤 H A mem run) .post (((κ, tt), (q, tt), tt, x, at), tt)
 
   abbrev Front : List CounterRow → List (Item 𝓤)
-  Front l = ‵ (Own l) ∷ ‵ (flft κ q) ∷ ‵ Rest ∷ []
+  Front l = ‵ (flft κ q) ∷ ‵ (Own l) ∷ ‵ Rest ∷ []
 
   exits : (l : List CounterRow) (r : Recorded) → length l ≡ length ys → Is R.the-row r (val r ∷ []) → left r l ≡ recorded ys used (pair n s) c → Sq W (Front l) (prop (Post (val r)))
   exits l r same is said =
       suffices ! _ (ends-at 𝓤 H A f.ended stayed (f.clauses 𝓤 H A mem run) W (((κ, tt), (q, tt), tt, x, at), tt) (val r) r (l, (tt, (tt, (tt, (tt, tt))))) (same, (tt, (tt, (tt, (tt, tt)))))) $ says ! said $
-      move ! (0 ∷ 2 ∷ []) $ fjoin ! $ nothing ! $ move ! (2 ∷ 0 ∷ []) $ join ! $ frame ! $ frame ! $ owned ! R.the-row (Is R.the-row) (LL.makes R.the-type R′.the-plain 𝓤 H A) r _ is $ done !
+      move ! (1 ∷ 2 ∷ []) $ fjoin ! $ nothing ! $ move ! (2 ∷ 0 ∷ []) $ join ! $ frame ! $ frame ! $ owned ! R.the-row (Is R.the-row) (LL.makes R.the-type R′.the-plain 𝓤 H A) r _ is $ done !
 
   module _ (C : Calls 𝓤 H) (Λ : Loops 𝓤 H) (fm : FmC 𝓤 H (W .laws) C) (known-capacity : Triple 𝓤 (C cap-code.name) (Capacity 𝓤 H A mem run)) (known-place : Triple 𝓤 (C place-code.name) (PlaceOf 𝓤 H A mem run))
       (l₀ l₁ l₂ l₃ l₄ l₅ l₆ l₇ l₈ l₉ l₁₀ l₁₁ l₁₂ l₁₃ l₁₄ l₁₅ l₁₆ l₁₇ l₁₈ l₁₉ l₂₀ : ℕ) where
@@ -123,15 +121,12 @@ module _ {M : Type 1} (𝓤 : URA M) (H : Heap 𝓤) (A : Atoms 𝓤) (W : Given
         skips ! $ exec ! C Λ En mir′.t-5 (atRet En Post) $
         assigns ! (addr ! (from ! (fld ! refl (hop ! (look-in ! 41 (sub ! 0 refl (whole !))) (stop !))))) (from ! (stop !)) (init ! 19 refl (tt, tt)) $
         assigns ! (agg ! (and-then ! (load ! (from ! (stop !)) (look ! 19 refl)) (and-then ! (load ! (from ! (fld ! refl (stop !))) (look-in ! 41 (sub ! 1 refl (whole !)))) (no-more !)))) (from ! (stop !)) (init ! 17 refl (tt, (tt, (record { fits = room .0 }, tt)))) $
-        lft-new ! tt (λ ν. move ! (1 ∷ 2 ∷ []) $
-        use2 W (later (some′ (λ (δ : GName). ‵ (ShrSlice (named 0) (ν ∷ []) T.the-row .own (record { ptr = (b, o); name = δ; now = ys }) (sv ∷ [])) ⊛ ‵ (LentShared T.the-row κ (ν ∷ []) q γ b o ys))))
-        (lends-shared T.the-row κ (ν ∷ []) q γ b o 𝓤 H A W (named 0) (named 0) ys) $ await ! tt $ pick ! (λ δ. split ! $ move ! (2 ∷ 0 ∷ []) $
+        on-shared ! T.the-row (named 0) (named 0) κ q γ b o ys (λ ν δ.
         use2 W (raw (PlaceOf 𝓤 H A mem run .pre (to-place 𝓤 H A mem run W (ν ∷ []) fullShare b o δ ys used n s))) (goes-place 𝓤 H A mem run W (ν ∷ []) fullShare b o δ ys used n s in-use used-fits n-fits s-fits) $
         gives ! fm place.ended (place.clauses 𝓤 H A mem run) known-place (to-place 𝓤 H A mem run W (ν ∷ []) fullShare b o δ ys used n s)
         (and-then ! (load ! (from ! (stop !)) (look ! 17 refl)) (and-then ! (load ! (from ! (stop !)) (look ! 39 refl)) (and-then ! (load ! (from ! (stop !)) (look ! 37 refl)) (and-then ! (load ! (from ! (stop !)) (look ! 35 refl)) (no-more !)))))
         (uint-vals w64) (uint-tells w64) Place (place-said 𝓤 H A mem run W (ν ∷ []) fullShare b o δ ys used n s) (λ is₂. land ! (from ! (stop !)) (init ! 29 refl (tt, record { fits = is₂ .1 })) $
-        use1 W (‵ (flft (ν ∷ []) fullShare) ⊛ ‵ ftrue) (id⊢ 𝓤 _) $ split ! $ lft-end ! tt $ move ! (1 ∷ []) $ drop ! $
-        use2 W (later (‵ (Own ys) ⊛ ‵ (flft κ q))) (shared-back T.the-row κ (ν ∷ []) q γ b o 𝓤 H A W (named 0) (named 0) ys room) $ await ! tt $ split ! $
+        token ! (ν ∷ []) fullShare $ off-shared ! T.the-row (named 0) (named 0) κ q γ b o ys room ν $
         assigns ! (bin ! (load ! (from ! (stop !)) (look ! 29 refl)) (load ! (from ! (stop !)) (look ! 31 refl)) tt) (from ! (stop !)) (store ! 25 refl (tt, tt)) $
         first ! $ branches ! (load ! (from ! (stop !)) (look ! 25 refl))
         (λ u. let is₃ = answer-is (declined TableFull used) (refused-is TableFull full-is) used-fits in
@@ -159,10 +154,9 @@ module _ {M : Type 1} (𝓤 : URA M) (H : Heap 𝓤) (A : Atoms 𝓤) (W : Given
         assigns ! (bin ! (load ! (from ! (stop !)) (look ! 29 refl)) (load ! (from ! (stop !)) (look ! 39 refl)) tt) (from ! (stop !)) (store ! 25 refl (tt, tt)) $
         first ! $ branches ! (load ! (from ! (stop !)) (look ! 25 refl))
         (λ v. let e : Place ≡ used = eqb→eq Place used v in
-        let fits : used + 1 < 2 ^ 64 = omega arith in
-        let is₄ = answer-is (finished (used + 1)) done-is fits in
+        let is₄ = answer-is (finished (used + 1)) done-is (omega arith) in
         assigns ! (agg ! (and-then ! (lit ! tt) (no-more !))) (from ! (stop !)) (init ! 7 refl (LE.lawful O.the-type O′.the-laws 𝓤 H A W tt .typed Done _ done-is .0)) $
-        assigns ! (bin ! (load ! (from ! (stop !)) (look ! 39 refl)) (lit ! tt) (record { fits = fits })) (from ! (stop !)) (init ! 5 refl (tt, record { fits = fits })) $
+        assigns ! (bin ! (load ! (from ! (stop !)) (look ! 39 refl)) (lit ! tt) (record { fits = omega arith })) (from ! (stop !)) (init ! 5 refl (tt, record { fits = omega arith })) $
         assigns ! (agg ! (and-then ! (load ! (from ! (stop !)) (look ! 7 refl)) (and-then ! (load ! (from ! (stop !)) (look ! 5 refl)) (no-more !)))) (from ! (stop !)) (init ! 43 refl (typed 𝓤 H A W (finished (used + 1)) is₄)) $
         returns-within ! Post refl (look ! 43 refl) $ leave ! (Front zs) (Locals (some _) (some _) (some _) (some _) (some _) none none (some _) (some _) none none (some _) (some _) (some _) (some _) none) $
         exits zs (finished (used + 1)) same is₄ (sym (recorded-new ys used (pair n s) few c e (omega arith))))
@@ -171,7 +165,7 @@ module _ {M : Type 1} (𝓤 : URA M) (H : Heap 𝓤) (A : Atoms 𝓤) (W : Given
         assigns ! (agg ! (and-then ! (lit ! tt) (no-more !))) (from ! (stop !)) (init ! 3 refl (LE.lawful O.the-type O′.the-laws 𝓤 H A W tt .typed Done _ done-is .0)) $
         assigns ! (agg ! (and-then ! (load ! (from ! (stop !)) (look ! 3 refl)) (and-then ! (load ! (from ! (stop !)) (look ! 39 refl)) (no-more !)))) (from ! (stop !)) (init ! 43 refl (typed 𝓤 H A W (finished used) is₅)) $
         returns ! (look ! 43 refl) $ leave ! (Front zs) (Locals (some _) (some _) (some _) (some _) (some _) none none (some _) (some _) none none (some _) (some _) none none (some _)) $
-        exits zs (finished used) same is₅ (sym (recorded-old ys used (pair n s) few c (not-at Place used v under)))))))))))
+        exits zs (finished used) same is₅ (sym (recorded-old ys used (pair n s) few c (not-at Place used v under))))))))))
 
   walk : (C : Calls 𝓤 H) (Λ : Loops 𝓤 H) → FmC 𝓤 H (W .laws) C → Triple 𝓤 (C cap-code.name) (Capacity 𝓤 H A mem run) → Triple 𝓤 (C place-code.name) (PlaceOf 𝓤 H A mem run)
       → ent 𝓤 (onEntry 𝓤 H A f.signature (κ, tt) (q, tt) x at) (WpFn 𝓤 H C Λ code.function (sv ∷ vint w64 used ∷ vint w8 n ∷ vint w64 s ∷ vint w32 c ∷ []) Post)
@@ -179,7 +173,7 @@ module _ {M : Type 1} (𝓤 : URA M) (H : Heap 𝓤) (A : Atoms 𝓤) (W : Given
       qed W ((‵ (flft κ q) ⊛ ‵ ftrue) ∷ ‵ (owns (MutSlice (named 0) κ T.the-row ∷ usize ∷ u8 ∷ u64 ∷ u32 ∷ []) x at) ∷ []) ∵ enter ! C Λ code.function (sv ∷ vint w64 used ∷ vint w8 n ∷ vint w64 s ∷ vint w32 c ∷ []) _ $
       alloc1 ! (λ l₀. alloc1 ! (λ l₁. alloc1 ! (λ l₂. alloc1 ! (λ l₃. alloc1 ! (λ l₄. alloc1 ! (λ l₅. alloc1 ! (λ l₆. alloc1 ! (λ l₇. alloc1 ! (λ l₈. alloc1 ! (λ l₉. alloc1 ! (λ l₁₀. alloc1 ! (λ l₁₁. alloc1 ! (λ l₁₂. alloc1 ! (λ l₁₃. alloc1 ! (λ l₁₄. alloc1 ! (λ l₁₅. alloc1 ! (λ l₁₆. alloc1 ! (λ l₁₇. alloc1 ! (λ l₁₈. alloc1 ! (λ l₁₉. alloc1 ! (λ l₂₀.
       alloc0 ! $ params1 ! $ pass1 ! (init ! 38 refl (tt, (tt, (record { fits = room .0 }, tt)))) $ pass1 ! (init ! 36 refl (tt, record { fits = used-fits })) $ pass1 ! (init ! 34 refl (tt, record { fits = n-fits })) $ pass1 ! (init ! 32 refl (tt, record { fits = s-fits })) $ pass1 ! (init ! 30 refl (tt, record { fits = c-fits })) $ pass0 ! $
-      move ! (43 ∷ []) $ fsplit ! $ move ! (44 ∷ []) $ split ! $ move ! (1 ∷ []) $ drop ! $ move ! (1 ∷ 0 ∷ []) $
+      move ! (43 ∷ []) $ fsplit ! $ move ! (44 ∷ []) $ split ! $ move ! (1 ∷ []) $ drop ! $
       body C Λ fm kc kp l₀ l₁ l₂ l₃ l₄ l₅ l₆ l₇ l₈ l₉ l₁₀ l₁₁ l₁₂ l₁₃ l₁₄ l₁₅ l₁₆ l₁₇ l₁₈ l₁₉ l₂₀)))))))))))))))))))))
 
 module _ {M : Type 1} (𝓤 : URA M) (H : Heap 𝓤) (A : Atoms 𝓤) (W : Given 𝓤 H A) where
