@@ -1,10 +1,10 @@
 -- The two halves make up the opening: a judgement is a refusal or an opening, and the commit by its answer is the table's `settle`.
 -- Assumes nothing.
 use mathlib.Core.Path.{_≡_, refl, sym, ap, _∙_}
-use mathlib.Core.Bool.{Bool, true, false, cond, not, _||_}
+use mathlib.Core.Bool.{Bool, true, false, cond, not, _||_, true≢false}
 use mathlib.Core.List.{List}
 use mathlib.Core.Option.{Option, none, some}
-use Prim.Native.Nat.{ℕ, _+_, _-_, _≤_, min}
+use Prim.Native.Nat.{ℕ, _+_, _-_, _≤_}
 use native.Mathlib.Omega.{arith}
 use lib.Dec.{eqb, ltb}
 use lib.ListN.{length, take, take-append-drop}
@@ -23,20 +23,23 @@ use Rattle.nib.specs.declared.counters.Known.the-variants.{Nothing, Counter}
 use Rattle.nib.specs.declared.counters.Standing.{Standing}
 use Rattle.nib.specs.declared.keys.KeyFound.{KeyFound}
 use Rattle.nib.specs.declared.keys.NetworkKeys.{NetworkKeys}
-use Rattle.nib.specs.Counters.{counterRows, capacity, overfull, known, heldFor, over, pair, recorded}
+use Rattle.nib.specs.Counters.{After, counterRows, capacity, overfull, known, heldFor, left, over, pair, recorded}
 use Rattle.nib.specs.declared.counters.Recorded.{Recorded}
-use Rattle.nib.specs.LentLaws.{columns, rows-length}
-use Rattle.nib.specs.Lent.{Leaves, rowsOf, column, number as number′, sender, counter}
 use Rattle.nib.specs.Keys.{keyFound}
 use Rattle.nib.specs.Pairs.{Pair}
 use Rattle.protection.specs.declared.claims.Claim.{Claim}
-use Rattle.protection.specs.Claims.{numberOf, nwkWho}
+use Rattle.protection.specs.declared.claims.Who.{Who}
+use Rattle.protection.specs.Claims.{numberOf, refuse, nwkWho}
+use Rattle.protection.proofs.ClaimLaws.{Sized, nwk-claim}
 use Rattle.protection.specs.Heard.{Heard, refused, equals, below}
 use Rattle.protection.specs.Protection.{tagSize, payloadSize, vouches, openedOctets}
 use Rattle.protection.specs.declared.claims.Who.the-variants.{Told, Claims}
+use Rattle.nwk.specs.declared.judge.Caller.{Caller}
+use Rattle.nwk.specs.declared.judge.Verdict.{Verdict}
+use Rattle.nwk.specs.declared.open.OpenedNwk.{OpenedNwk}
 use Rattle.nwk.specs.declared.state.Nwk.{Nwk}
 use Rattle.nwk.specs.OpenNwk.{Opened, unchanged, activeAfter, nwkJudged, nwkPlaced, nwkUnfit, openNwk}
-use Rattle.nwk.specs.Halves.{freshness, heldOf, heardFrom, judgedFresh, judgedHeard, Kept, keptAfter, Keeps, Opens}
+use Rattle.nwk.specs.Halves.{freshness, heldOf, heardFrom, judgedFresh, judgedHeard, nwkAsked, callerOf, isOpened, heardFrame, verdictOf, opened}
 
 -- ---- the judgement
 
@@ -124,21 +127,20 @@ module _ (keys : NetworkKeys) (c : Claim) (b : List ℕ) (enough : c .payload + 
       let h = fresh-is true true t e in
       (ap (λ (m : ℕ). answer.Done (c .payload) (m - 4 - c .payload)) l ∙ sym (ap (λ (y : Heard). y .answer) h), o ∙ sym (ap (λ (y : Heard). y .frame) h))
 
--- ---- what is kept, list by list
-
-module _ (ns ss cs : List ℕ) (used : ℕ) (k : Pair) (n : ℕ) where
-  pub kept-opened : (a : Answer) (start len : ℕ) (r : Recorded) (ns′ ss′ cs′ : List ℕ) → a ≡ answer.Done start len
-      → Leaves ns ss cs (recorded (rowsOf ns ss cs) used k n) r ns′ ss′ cs′ → Keeps ns ss cs (keptAfter a (rowsOf ns ss cs) used k n) (r .used) ns′ ss′ cs′
-  kept-opened a start len r ns′ ss′ cs′ e l = rw e (record { used = l .used; numbers = l .numbers; senders = l .senders; counters = l .counters })
-
-  kept-all : Keeps ns ss cs (record { used = used; rows = rowsOf ns ss cs }) used ns ss cs
-  kept-all = let w = columns ns ss cs in record { used = refl; numbers = w .0; senders = w .1; counters = w .2 }
-
-  pub kept-plain : (a : Answer) (start len : ℕ) → a ≡ answer.Plain start len → Keeps ns ss cs (keptAfter a (rowsOf ns ss cs) used k n) used ns ss cs
-  kept-plain a start len e = rw e kept-all
-
-  pub kept-refused : (a : Answer) (why : Refusal) → a ≡ answer.Refused why → Keeps ns ss cs (keptAfter a (rowsOf ns ss cs) used k n) used ns ss cs
-  kept-refused a why e = rw e kept-all
+-- what is judged of a claim, by what the code's calls say
+module _ (s : Nwk) (standing : Standing) (b : List ℕ) (c : Claim) where
+  pub claim-judged : (w : Who) (number : ℕ) (told : Answer) (active : ℕ) (opens : Bool) (x : List ℕ) → w ≡ Claims c → number ≡ numberOf (c .key)
+      → (told ≡ (judgedHeard (s .keys) c standing b) .answer) × (x ≡ (judgedHeard (s .keys) c standing b) .frame)
+      → active ≡ activeAfter (s .active) number told → opens ≡ isOpened told
+      → (record { answer = told; active = active; opens = opens } ≡ verdictOf s w standing b) × (x ≡ heardFrame s w standing b)
+  claim-judged w number told active opens x ew en eh ea eo =
+      (rw ew
+      (λ i. record {
+        answer = eh .0 i;
+        active = (ea ∙ (λ j. activeAfter (s .active) (en j) (eh .0 j))) i;
+        opens = (eo ∙ ap isOpened (eh .0)) i;
+      }),
+      rw ew (eh .1))
 
 -- ---- the commit
 
@@ -177,9 +179,9 @@ module _ (rows : List CounterRow) (used : ℕ) (k : Pair) (fits : used ≤ capac
   pub record Committed (n : ℕ) (r : Reaction Heard ℕ) : Type 0 where
     pub told : (settle counterRows (capacity (length rows)) (take used rows) k r) .out ≡ heardFrom r (room counterRows (capacity (length rows)) (take used rows) k)
     pub used-after : length ((settle counterRows (capacity (length rows)) (take used rows) k r) .rows)
-        ≡ (keptAfter ((heardFrom r (room counterRows (capacity (length rows)) (take used rows) k)) .answer) rows used k n) .used
+        ≡ cond (isOpened ((heardFrom r (room counterRows (capacity (length rows)) (take used rows) k)) .answer)) ((recorded rows used k n) .used) used
     pub rows-after : over ((settle counterRows (capacity (length rows)) (take used rows) k r) .rows) rows
-        ≡ (keptAfter ((heardFrom r (room counterRows (capacity (length rows)) (take used rows) k)) .answer) rows used k n) .rows
+        ≡ cond (isOpened ((heardFrom r (room counterRows (capacity (length rows)) (take used rows) k)) .answer)) ((recorded rows used k n) .rows) rows
 
   commits : (n : ℕ) (b : List ℕ) (r : Reaction Heard ℕ) → Judgement n b r → Committed n r
   unfolding settle recorded
@@ -189,7 +191,7 @@ module _ (rows : List CounterRow) (used : ℕ) (k : Pair) (fits : used ≤ capac
       go : (t : Bool) → room counterRows (capacity (length rows)) (take used rows) k ≡ t → Committed n (become n (record { answer = answer.Done start len; frame = f }) (refused TableFull b))
       go true e =
           let fine : overfull rows used ≡ false = le-ltb (capacity (length rows)) used fits in
-          record { told = refl; used-after = rw (e, fine, e); rows-after = rw (e, fine, e) }
+          record { told = refl; used-after = rw (e, fine); rows-after = rw (e, fine) }
       go false e = record { told = refl; used-after = rw e in-use; rows-after = rw e same-rows }
 
 -- what is held is read back as it was found
@@ -202,8 +204,8 @@ abbrev after : Nwk → List CounterRow → ℕ → Pair → ℕ → Heard → Op
 after s rows used k n h = record {
   answer = h .answer;
   frame = h .frame;
-  rows = (keptAfter (h .answer) rows used k n) .rows;
-  used = (keptAfter (h .answer) rows used k n) .used;
+  rows = cond (isOpened (h .answer)) ((recorded rows used k n) .rows) rows;
+  used = cond (isOpened (h .answer)) ((recorded rows used k n) .used) used;
   active = activeAfter (s .active) (k .number) (h .answer);
 }
 
@@ -226,67 +228,102 @@ module _ (s : Nwk) (rows : List CounterRow) (used : ℕ) (b : List ℕ) (c : Cla
       (λ i. record { answer = (w .told i) .answer; frame = (w .told i) .frame; rows = w .rows-after i; used = w .used-after i; active = activeAfter (s .active) (k .number) ((w .told i) .answer) })
       ∙ ap (after s rows used k (c .counter)) (sym heard-is)
 
-  -- THE OPENING of a claim: what the code's calls say, put together
-  pub opened : (ns ss cs ns′ ss′ cs′ frame : List ℕ) (number : ℕ) (standing : Standing) (told : Answer) (used′ active′ : ℕ)
-      → number ≡ numberOf (c .key)
-      → standing ≡ heldFor rows used (pair number (c .sender))
-      → (told ≡ (judgedHeard (s .keys) c standing b) .answer) × (frame ≡ (judgedHeard (s .keys) c standing b) .frame)
-      → Keeps ns ss cs (keptAfter told rows used (pair number (c .sender)) (c .counter)) used′ ns′ ss′ cs′
-      → active′ ≡ activeAfter (s .active) number told
-      → Opens ns ss cs (nwkPlaced s rows used b (Claims c)) (record { answer = told; used = used′; active = active′ }) ns′ ss′ cs′ frame
-  opened ns ss cs ns′ ss′ cs′ frame number standing told used′ active′ en es eh ek ea =
-      let st : standing ≡ heldFor rows used k = es ∙ ap (λ (n : ℕ). heldFor rows used (pair n (c .sender))) en in
-      let h = judgedHeard (s .keys) c (heldFor rows used k) b in
-      let ta : told ≡ h .answer = eh .0 ∙ ap (λ (t : Standing). (judgedHeard (s .keys) c t b) .answer) st in
-      let tf : frame ≡ h .frame = eh .1 ∙ ap (λ (t : Standing). (judgedHeard (s .keys) c t b) .frame) st in
-      let kp : keptAfter told rows used (pair number (c .sender)) (c .counter) ≡ keptAfter (h .answer) rows used k (c .counter) =
-      (λ i. keptAfter (ta i) rows used (pair (en i) (c .sender)) (c .counter)) in
-      rw placed-is
-      (record {
-        answer = ta;
-        used = ek .used ∙ ap (λ (x : Kept). x .used) kp;
-        active = ea ∙ (λ i. activeAfter (s .active) (en i) (ta i));
-        numbers = ek .numbers ∙ ap (λ (x : Kept). column number′ (x .rows) ns) kp;
-        senders = ek .senders ∙ ap (λ (x : Kept). column sender (x .rows) ss) kp;
-        counters = ek .counters ∙ ap (λ (x : Kept). column counter (x .rows) cs) kp;
-        bytes = tf;
-      })
+-- ---- the whole call: what the code's calls say, put together
 
--- ---- the whole call
+who-of : (w : Who) → (callerOf w) .who ≡ w
+who-of (Told a) = refl
+who-of (Claims c) = refl
 
-module _ (s : Nwk) (ns ss cs : List ℕ) (used : ℕ) (b : List ℕ) (places : ℕ) (u : Bool) (is-places : places ≡ capacity (min (length ns) (min (length ss) (length cs))))
-    (tested : u ≡ (not (eqb (s .level) 5) || (ltb 2 (s .keys .used) || ltb places used))) where
-  abbrev rows : List CounterRow
-  rows = rowsOf ns ss cs
+never-claims : {X : Type 0} {a : Answer} {c : Claim} → Told a ≡ Claims c → X
+never-claims e = let z : _≡_ {A = ℕ} 0 1 = cc in absurd (omega arith)
 
-  unfit-is : u ≡ nwkUnfit s rows used
-  unfit-is =
-      let l : places ≡ capacity (length rows) = is-places ∙ ap capacity (sym (rows-length ns ss cs)) in
-      tested ∙ ap (λ (p : ℕ). not (eqb (s .level) 5) || (ltb 2 (s .keys .used) || ltb p used)) l
+never-true : {X : Type 0} → false ≡ true → X
+never-true e = absurd (true≢false (sym e))
 
-  -- nothing is changed where the answer is settled without the rows
-  left-alone : (h : Heard) → Opens ns ss cs (unchanged s rows used h) (record { answer = h .answer; used = used; active = s .active }) ns ss cs (h .frame)
-  left-alone h =
-      let w = columns ns ss cs in
-      record { answer = refl; used = refl; active = refl; numbers = w .0; senders = w .1; counters = w .2; bytes = refl }
+module _ (s : Nwk) (rows : List CounterRow) (used : ℕ) (b : List ℕ) where
+  abbrev asked : Who
+  asked = nwkAsked s (length rows) used b
 
-  pub top-unfit : u ≡ true → Opens ns ss cs (openNwk s rows used b) (record { answer = answer.Refused Unsupported; used = used; active = s .active }) ns ss cs b
-  unfolding openNwk
-  top-unfit e = rw (← unfit-is, e) (left-alone (refused Unsupported b))
-
-  pub top-told : (a : Answer) → u ≡ false → nwkWho (s .keys) b ≡ Told a → Opens ns ss cs (openNwk s rows used b) (record { answer = a; used = used; active = s .active }) ns ss cs b
-  unfolding openNwk nwkPlaced
-  top-told a e q = rw (← unfit-is, e, q) (left-alone (record { answer = a; frame = b }))
-
-  pub top-claims : (c : Claim) → u ≡ false → nwkWho (s .keys) b ≡ Claims c → openNwk s rows used b ≡ nwkPlaced s rows used b (Claims c)
-  unfolding openNwk
-  top-claims c e q = rw (← unfit-is, e, q)
-
-  pub top-fits : u ≡ false → used ≤ capacity (length rows)
-  top-fits e = last (eqb (s .level) 5) (ltb 2 (s .keys .used)) (ltb (capacity (length rows)) used) refl (sym unfit-is ∙ e)
+  open-is : openNwk s rows used b ≡ nwkPlaced s rows used b asked
+  unfolding openNwk nwkAsked nwkPlaced
+  open-is = at (nwkUnfit s rows used) (nwkWho (s .keys) b)
     where
-      last : (x y z : Bool) → ltb (capacity (length rows)) used ≡ z → (not x || (y || z)) ≡ false → used ≤ capacity (length rows)
-      last true false false q h = ltb-false (capacity (length rows)) used q
-      last true false true q h = let z : _≡_ {A = ℕ} 0 1 = cc in absurd (omega arith)
-      last true true z q h = let z : _≡_ {A = ℕ} 0 1 = cc in absurd (omega arith)
-      last false y z q h = let z : _≡_ {A = ℕ} 0 1 = cc in absurd (omega arith)
+      at : (t : Bool) (w : Who) → cond t (unchanged s rows used (refused Unsupported b)) (nwkPlaced s rows used b w) ≡ nwkPlaced s rows used b (cond t (refuse Unsupported) w)
+      at true w = refl
+      at false w = refl
+
+  -- a frame that claims to be somebody's: the state is fit, and the headers say so
+  claims : (c : Claim) → asked ≡ Claims c → (used ≤ capacity (length rows)) × (nwkWho (s .keys) b ≡ Claims c)
+  unfolding nwkAsked
+  claims c e = at (eqb (s .level) 5) (ltb 2 (s .keys .used)) (ltb (capacity (length rows)) used) refl e
+    where
+      at : (x y z : Bool) → ltb (capacity (length rows)) used ≡ z → cond (not x || (y || z)) (refuse Unsupported) (nwkWho (s .keys) b) ≡ Claims c
+          → (used ≤ capacity (length rows)) × (nwkWho (s .keys) b ≡ Claims c)
+      at true false false q h = (ltb-false (capacity (length rows)) used q, h)
+      at true false true q h = never-claims h
+      at true true z q h = never-claims h
+      at false y z q h = never-claims h
+
+  -- by what the headers settle or claim
+  abbrev pairOf : Who → Pair
+  pairOf w = pair ((callerOf w) .number) ((callerOf w) .sender)
+
+  abbrev verdictAs : Who → Verdict
+  verdictAs w = verdictOf s w (heldFor rows used (pairOf w)) b
+
+  abbrev afterRecord : Who → After
+  afterRecord w = recorded rows used (pairOf w) ((callerOf w) .counter)
+
+  abbrev result : Who → ℕ → List CounterRow → Opened
+  result w n rs = record { answer = (verdictAs w) .answer; frame = heardFrame s w (heldFor rows used (pairOf w)) b; rows = rs; used = n; active = (verdictAs w) .active }
+
+  recorded-at : (w : Who) → asked ≡ w → (verdictAs w) .opens ≡ true → result w ((afterRecord w) .used) ((afterRecord w) .rows) ≡ nwkPlaced s rows used b w
+  recorded-at (Told a) e t = never-true t
+  recorded-at (Claims c) e t = rw (placed-is s rows used b c (claims c e .0), t)
+
+  left-at : (w : Who) → asked ≡ w → (verdictAs w) .opens ≡ false → result w used rows ≡ nwkPlaced s rows used b w
+  unfolding nwkPlaced
+  left-at (Told a) e t = refl
+  left-at (Claims c) e t = sym (placed-is s rows used b c (claims c e .0) ∙ rw t)
+
+  -- the calls' answers: the caller, what is held for it, the judgement and the frame after it
+  module _ (caller : Caller) (is-caller : caller ≡ callerOf asked) where
+    is-who : caller .who ≡ asked
+    is-who = ap (λ (x : Caller). x .who) is-caller ∙ who-of asked
+
+    pub sized : (c : Claim) → caller .who ≡ Claims c → Sized c b
+    sized c e = nwk-claim c b (s .keys) (claims c (sym is-who ∙ e) .1)
+
+    module _ (standing : Standing) (is-standing : standing ≡ heldFor rows used (pair (caller .number) (caller .sender)))
+        (verdict : Verdict) (frame : List ℕ) (is-verdict : (verdict ≡ verdictOf s (caller .who) standing b) × (frame ≡ heardFrame s (caller .who) standing b)) where
+      stands : standing ≡ heldFor rows used (pairOf asked)
+      stands = is-standing ∙ ap (λ (x : Caller). heldFor rows used (pair (x .number) (x .sender))) is-caller
+
+      verdict-is : verdict ≡ verdictAs asked
+      verdict-is = is-verdict .0 ∙ (λ i. verdictOf s (is-who i) (stands i) b)
+
+      frame-is : frame ≡ heardFrame s asked (heldFor rows used (pairOf asked)) b
+      frame-is = is-verdict .1 ∙ (λ i. heardFrame s (is-who i) (stands i) b)
+
+      opens-is : (verdictAs asked) .opens ≡ verdict .opens
+      opens-is = ap (λ (x : Verdict). x .opens) (sym verdict-is)
+
+      -- THE OPENING, where the counter is recorded, and where it is not
+      pub opened-recorded : verdict .opens ≡ true → (r : Recorded) (zs : List CounterRow) → left r zs ≡ recorded rows used (pair (caller .number) (caller .sender)) (caller .counter)
+          → opened (record { answer = verdict .answer; used = r .used; active = verdict .active }) zs frame ≡ openNwk s rows used b
+      opened-recorded t r zs e =
+          let f : left r zs ≡ afterRecord asked = e ∙ ap (λ (x : Caller). recorded rows used (pair (x .number) (x .sender)) (x .counter)) is-caller in
+          (λ i. record { answer = (verdict-is i) .answer; frame = frame-is i; rows = (f i) .rows; used = (f i) .used; active = (verdict-is i) .active })
+          ∙ recorded-at asked refl (opens-is ∙ t) ∙ sym open-is
+
+      pub opened-left : verdict .opens ≡ false → opened (record { answer = verdict .answer; used = used; active = verdict .active }) rows frame ≡ openNwk s rows used b
+      opened-left t =
+          (λ i. record { answer = (verdict-is i) .answer; frame = frame-is i; rows = rows; used = used; active = (verdict-is i) .active })
+          ∙ left-at asked refl (opens-is ∙ t) ∙ sym open-is
+
+-- two results that the promise of `open_nwk` allows are equal
+pub opened-once : (r q : OpenedNwk) (rs qs : List CounterRow) (x y : List ℕ) (promised : Opened) → opened r rs x ≡ promised → opened q qs y ≡ promised
+    → (r ≡ q) × (rs ≡ qs) × (x ≡ y)
+opened-once r q rs qs x y promised e f =
+    let p : opened r rs x ≡ opened q qs y = e ∙ sym f in
+    ((λ i. record { answer = (p i) .answer; used = (p i) .used; active = (p i) .active }), ap (λ (z : Opened). z .rows) p, ap (λ (z : Opened). z .frame) p)

@@ -1,3 +1,4 @@
 pub mod Commit
+pub mod ReadyLaws
 pub mod SecuringLaws
 pub mod RoundNwk

@@ -40,55 +40,8 @@ use Rattle.nwk.specs.declared.state.Nwk.{Nwk}
 use Rattle.nwk.specs.OpenNwk.{Opened, nwkCommitted, nwkJudged, nwkPlaced, nwkUnfit, openNwk}
 use Rattle.nwk.specs.SecureNwk.{Secured, notSecured, nwkAdded, nwkHeaders, nwkOnAir, nwkDone, nwkFramed, secureNwk}
 use Rattle.protection.proofs.RoundTrip as protection
+use Rattle.nwk.proofs.ReadyLaws.{Checked, is-checked}
 use Rattle.nwk.proofs.SecuringLaws.{auxiliary-size}
-
--- ---- what a securing that is done has checked
-
-pub record Checked (s : Nwk) (o : Outgoing) (plain out : List ℕ) : Type 0 where
-  pub small : length plain ≤ 1006
-  pub whole : nwkLength plain ≤ length plain
-  pub bit-set : bit 9 (nwkControl plain) ≡ true
-  pub found : (keyFound (s .keys) (s .active)) .found ≡ true
-  pub usable : mayUse o ≡ true
-  pub leaves : secureNwk s o plain out ≡ nwkDone s o plain out (nwkLength plain)
-
-nor-the-other : (a : Bool) {b : Bool} → (a || b) ≡ false → b ≡ false
-nor-the-other false e = e
-nor-the-other true e = let z : _≡_ {A = ℕ} 0 1 = cc in absurd (omega arith)
-
-module _ (s : Nwk) (o : Outgoing) (plain out : List ℕ) (start len : ℕ) where
-  -- a check that was passed
-  passed : (t : Bool) (why : Refusal) (rest : Secured) → (cond t (notSecured why out o) rest) .answer ≡ Done start len
-      → (t ≡ false) × (rest .answer ≡ Done start len) × (cond t (notSecured why out o) rest ≡ rest)
-  passed true why rest e = let z : _≡_ {A = ℕ} 0 1 = cc in absurd (omega arith)
-  passed false why rest e = (refl, e, refl)
-
-  abbrev headerRead : Bool → NwkRead
-  headerRead b = cond b (nwk.Whole (record { len = nwkLength plain; kind = nwkKind (nwkControl plain); secured = bit 9 (nwkControl plain) })) nwk.Cut
-
-  header-checked : (b : Bool) → leb (nwkLength plain) (length plain) ≡ b → length plain ≤ 1006
-      → secureNwk s o plain out ≡ nwkFramed s o plain out (headerRead b) → (nwkFramed s o plain out (headerRead b)) .answer ≡ Done start len
-      → Checked s o plain out
-  header-checked false t small so e = let z : _≡_ {A = ℕ} 0 1 = cc in absurd (omega arith)
-  header-checked true t small so e =
-      let kind = passed (leb 2 (nwkKind (nwkControl plain)) || not (bit 9 (nwkControl plain))) Unsupported _ e in
-      let key = passed (not ((keyFound (s .keys) (s .active)) .found)) NoNetworkKey _ (kind .1) in
-      let may = passed (not (mayUse o)) CounterExhausted _ (key .1) in
-      let fits = passed (ltb (length out) (length plain + nwkAdded)) NoRoom _ (may .1) in
-      record {
-        small = small;
-        whole = leb-true (nwkLength plain) (length plain) t;
-        bit-set = not-false _ (nor-the-other (leb 2 (nwkKind (nwkControl plain))) (kind .0));
-        found = not-false _ (key .0);
-        usable = not-false _ (may .0);
-        leaves = so ∙ kind .2 ∙ key .2 ∙ may .2 ∙ fits .2;
-      }
-
-  pub is-checked : (secureNwk s o plain out) .answer ≡ Done start len → Checked s o plain out
-  unfolding secureNwk nwkOf
-  is-checked e =
-      let state = passed (not (eqb (s .level) level) || (ltb 2 (s .keys .used) || ltb 1006 (length plain))) Unsupported _ e in
-      header-checked (leb (nwkLength plain) (length plain)) refl (ltb-false 1006 (length plain) (nor-the-other (ltb 2 (s .keys .used)) (nor-the-other (not (eqb (s .level) level)) (state .0)))) (state .2) (state .1)
 
 -- ---- the gateway that hears it: the same key under the same number; a held counter of that pair, if there is one, is lower; and room
 

@@ -1,6 +1,5 @@
 -- What the steps of securing write, on plain lists. Assumes nothing.
 use mathlib.Core.Path.{_≡_, sym, ap, _∙_}
-use mathlib.Core.Bool.{true}
 use mathlib.Core.List.{List, _++_, append-assoc}
 use Prim.Native.Nat.{ℕ, _+_, _-_, _≤_}
 use native.Mathlib.Omega.{arith}
@@ -12,18 +11,12 @@ use Rattle.frame.specs.Control.{sent, hasSender, hasNumber}
 use Rattle.frame.specs.declared.control.KeyIdentifier.the-variants.{Network}
 use Rattle.frame.specs.Auxiliary.{auxiliaryOctets}
 use Rattle.frame.specs.AuxiliaryLaws.{octets-length}
-use Rattle.answer.specs.declared.Outcome.the-variants.{Done}
-use Rattle.answer.specs.declared.Answer.the-variants as answer
-use Rattle.nib.specs.declared.keys.NetworkKey.{NetworkKey}
-use Rattle.nib.specs.declared.outgoing.Outgoing.{Outgoing}
-use Rattle.nib.specs.declared.outgoing.Taken.{Taken}
+use Rattle.nib.specs.declared.keys.KeyFound.{KeyFound}
 use Rattle.nib.specs.Keys.{keyFound}
-use Rattle.nib.specs.Sending.{mayUse, taken}
 use Rattle.protection.specs.Protection.{securedOctets}
 use Rattle.frame.specs.Written.{written}
 use Rattle.frame.specs.WrittenLaws.{put}
-use Rattle.nwk.specs.SecureNwk.{Secured, left, nwkAdded, nwkHeaders, nwkOnAir, nwkDone}
-use Rattle.nwk.specs.declared.secure.SecuredNwk.{SecuredNwk}
+use Rattle.nwk.specs.SecureNwk.{nwkAdded, nwkHeaders, nwkOnAir}
 use Rattle.nwk.specs.declared.state.Nwk.{Nwk}
 
 -- the auxiliary header that NWK sends has 14 octets
@@ -88,24 +81,15 @@ module _ (key hs plain out : List ℕ) (own counter header : ℕ) (whole : heade
       let front : take (header + 14) x ≡ hs = rw (is-laid, append-assoc) (take-at hs (text ++ past) (header + 14) size) in
       sealed ∙ rw (front, rest-is, take-at text past count (length-drop header plain), past-is)
 
--- the counter t that was taken is the next one, and the buffer y is what is promised
-module _ (s : Nwk) (o : Outgoing) (row : NetworkKey) (t : Taken) (plain out x y : List ℕ) (header : ℕ)
-    (is-row : row ≡ (keyFound (s .keys) (s .active)) .row) (usable : mayUse o ≡ true) (whole : header ≤ length plain) (is-taken : t ≡ taken o)
-    (is-laid : x ≡ (nwkHeaders s (t .counter) plain header ++ drop header plain) ++ drop (length plain + 14) out)
-    (is-sealed : y ≡ securedOctets (row .key) (s .own) (t .counter) header (take (header + 14) x) (take (length plain - header) (drop (header + 14) x)) ++ drop (header + 14 + (length plain - header) + 4) x) where
-  takes : t ≡ record { outcome = Done; counter = o .next; outgoing = record { next = o .next + 1 } }
-  unfolding taken
-  takes = is-taken ∙ rw usable
-
-  headers-size : length (nwkHeaders s (t .counter) plain header) ≡ header + 14
+-- under the active key: x is the buffer with all laid in it, y after sealing
+module _ (s : Nwk) (counter : ℕ) (found : KeyFound) (plain out x y : List ℕ) (header : ℕ) (is-found : found ≡ keyFound (s .keys) (s .active)) (whole : header ≤ length plain)
+    (is-laid : x ≡ (nwkHeaders s counter plain header ++ drop header plain) ++ drop (length plain + 14) out)
+    (is-sealed : y ≡ securedOctets (found .row .key) (s .own) counter header (take (header + 14) x) (take (length plain - header) (drop (header + 14) x)) ++ drop (header + 14 + (length plain - header) + 4) x) where
+  headers-size : length (nwkHeaders s counter plain header) ≡ header + 14
   headers-size = rw (length-append, length-take-le header plain whole, auxiliary-size)
 
-  pub finished : left (record { answer = answer.Done 0 (length plain + nwkAdded); outgoing = t .outgoing }) y ≡ nwkDone s o plain out header
+  pub finished : y ≡ nwkOnAir s counter plain header ++ drop (length plain + nwkAdded) out
   unfolding nwkOnAir
-  finished = rw (sealed-as-laid (row .key) (nwkHeaders s (t .counter) plain header) plain out (s .own) (t .counter) header whole headers-size x y is-laid is-sealed, takes, is-row)
-
--- two results that the promise of `secure_nwk` allows are equal
-pub secured-once : (r q : SecuredNwk) (x y : List ℕ) (promised : Secured) → left r x ≡ promised → left q y ≡ promised → (r ≡ q) × (x ≡ y)
-secured-once r q x y promised e f =
-    let p : left r x ≡ left q y = e ∙ sym f in
-    (λ i. record { answer = (p i) .answer; outgoing = (p i) .outgoing }, ap (λ (z : Secured). z .out) p)
+  finished =
+      sealed-as-laid (found .row .key) (nwkHeaders s counter plain header) plain out (s .own) counter header whole headers-size x y is-laid is-sealed
+      ∙ ap (λ (f : KeyFound). securedOctets (f .row .key) (s .own) counter header (nwkHeaders s counter plain header) (drop header plain) ++ drop (length plain + nwkAdded) out) is-found

@@ -1,7 +1,6 @@
--- The two halves of an opening as the code has them: the judgement by what is held, and the commit by the answer. That they make up
+-- The two halves of an opening as the code has them: the judgement by what is held, and the commit where it opens. That they make up
 -- `openNwk` is shown in proofs/.
-use mathlib.Core.Path.{_≡_}
-use mathlib.Core.Bool.{Bool, cond, not}
+use mathlib.Core.Bool.{Bool, true, false, cond, not, _||_}
 use mathlib.Core.List.{List}
 use mathlib.Core.Option.{Option, none, some}
 use Prim.Native.Nat.{ℕ, _+_}
@@ -11,23 +10,40 @@ use Rattle.answer.specs.declared.Answer.{Answer}
 use Rattle.answer.specs.declared.Answer.the-variants as answer
 use Rattle.answer.specs.declared.Outcome.{Outcome}
 use Rattle.answer.specs.declared.Outcome.the-variants.{Done, Refused}
-use Rattle.answer.specs.declared.Refusal.the-variants.{Cut, CounterRepeated, CounterBehind, WrongTag, TableFull}
+use Rattle.answer.specs.declared.Refusal.the-variants.{Unsupported, Cut, CounterRepeated, CounterBehind, WrongTag, TableFull}
 use Rattle.cells.specs.Rows.{Reaction, leave, become}
 use Rattle.nib.specs.declared.counters.CounterRow.{CounterRow}
 use Rattle.nib.specs.declared.counters.Known.{Known}
 use Rattle.nib.specs.declared.counters.Known.the-variants.{Nothing, Counter}
 use Rattle.nib.specs.declared.counters.Standing.{Standing}
 use Rattle.nib.specs.declared.keys.NetworkKeys.{NetworkKeys}
-use Rattle.nib.specs.Counters.{recorded}
+use Rattle.nib.specs.Counters.{capacity}
 use Rattle.nib.specs.Keys.{keyFound}
-use Rattle.nib.specs.Lent.{column, number, sender, counter}
-use Rattle.nib.specs.Pairs.{Pair}
 use Rattle.protection.specs.declared.claims.Claim.{Claim}
-use Rattle.protection.specs.Claims.{numberOf}
+use Rattle.protection.specs.declared.claims.Who.{Who}
+use Rattle.protection.specs.declared.claims.Who.the-variants.{Told, Claims}
+use Rattle.protection.specs.Claims.{numberOf, refuse, nwkWho}
 use Rattle.protection.specs.Heard.{Heard, refused}
-use Rattle.protection.specs.Protection.{tagSize, payloadSize, vouches, openedOctets}
+use Rattle.protection.specs.Protection.{level, tagSize, payloadSize, vouches, openedOctets}
+use Rattle.nwk.specs.declared.bridge.OpenedWith.{OpenedWith}
+use Rattle.nwk.specs.declared.judge.Caller.{Caller}
+use Rattle.nwk.specs.declared.judge.Verdict.{Verdict}
 use Rattle.nwk.specs.declared.open.OpenedNwk.{OpenedNwk}
-use Rattle.nwk.specs.OpenNwk.{Opened, nwkJudged}
+use Rattle.nwk.specs.declared.state.Nwk.{Nwk}
+use Rattle.nwk.specs.OpenNwk.{Opened, activeAfter, nwkJudged}
+
+-- ---- whose row is asked for
+
+-- what the state and the headers settle, or else what they claim, where so many rows are lent
+unfoldable pub nwkAsked : Nwk → ℕ → ℕ → List ℕ → Who
+nwkAsked s lent used b =
+    cond (not (eqb (s .level) level) || (ltb 2 (s .keys .used) || ltb (capacity lent) used)) (refuse Unsupported) (nwkWho (s .keys) b)
+
+abbrev pub callerOf : Who → Caller
+callerOf (Told a) = record { who = Told a; number = 0; sender = 0; counter = 0 }
+callerOf (Claims c) = record { who = Claims c; number = numberOf (c .key); sender = c .sender; counter = c .counter }
+
+-- ---- the judgement
 
 -- the tests of the counter
 abbrev pub freshness : Known → ℕ → Outcome
@@ -57,29 +73,27 @@ judgedFresh keys c room b =
     (record { answer = answer.Done (c .payload) (payloadSize (c .payload) b); frame = openedOctets key (c .sender) (c .counter) (c .at) (c .payload) b })
     (refused TableFull b)))
 
--- the rows after an answer, and how many are in use
-pub record Kept : Type 0 where
-  pub used : ℕ
-  pub rows : List CounterRow
+abbrev pub isOpened : Answer → Bool
+isOpened (answer.Done start len) = true
+isOpened (answer.Plain start len) = false
+isOpened (answer.Refused why) = false
 
-abbrev pub keptAfter : Answer → List CounterRow → ℕ → Pair → ℕ → Kept
-keptAfter (answer.Done start len) rows used k c = record { used = (recorded rows used k c) .used; rows = (recorded rows used k c) .rows }
-keptAfter (answer.Plain start len) rows used k c = record { used = used; rows = rows }
-keptAfter (answer.Refused why) rows used k c = record { used = used; rows = rows }
+-- the frame's octets after it, and what is judged
+abbrev pub heardFrame : Nwk → Who → Standing → List ℕ → List ℕ
+heardFrame s (Told a) standing b = b
+heardFrame s (Claims c) standing b = (judgedHeard (s .keys) c standing b) .frame
 
--- ---- what is lent, list by list
+abbrev pub verdictOf : Nwk → Who → Standing → List ℕ → Verdict
+verdictOf s (Told a) standing b = record { answer = a; active = s .active; opens = false }
+verdictOf s (Claims c) standing b =
+    let a : Answer = (judgedHeard (s .keys) c standing b) .answer in
+    record { answer = a; active = activeAfter (s .active) (numberOf (c .key)) a; opens = isOpened a }
 
-pub record Keeps (ns ss cs : List ℕ) (kept : Kept) (r : ℕ) (ns′ ss′ cs′ : List ℕ) : Type 0 where
-  pub used : r ≡ kept .used
-  pub numbers : ns′ ≡ column number (kept .rows) ns
-  pub senders : ss′ ≡ column sender (kept .rows) ss
-  pub counters : cs′ ≡ column counter (kept .rows) cs
+-- ---- what a call leaves, by what it returns and what is in the memory lent
 
-pub record Opens (ns ss cs : List ℕ) (after : Opened) (r : OpenedNwk) (ns′ ss′ cs′ frame : List ℕ) : Type 0 where
-  pub answer : r .answer ≡ after .answer
-  pub used : r .used ≡ after .used
-  pub active : r .active ≡ after .active
-  pub numbers : ns′ ≡ column number (after .rows) ns
-  pub senders : ss′ ≡ column sender (after .rows) ss
-  pub counters : cs′ ≡ column counter (after .rows) cs
-  pub bytes : frame ≡ after .frame
+abbrev pub opened : OpenedNwk → List CounterRow → List ℕ → Opened
+opened r rows frame = record { answer = r .answer; frame = frame; rows = rows; used = r .used; active = r .active }
+
+-- the same where the rows come back by value
+abbrev pub openedWith : OpenedWith → List ℕ → Opened
+openedWith r frame = record { answer = r .answer; frame = frame; rows = r .rows; used = r .used; active = r .active }

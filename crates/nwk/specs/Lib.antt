@@ -1,3 +1,4 @@
 pub mod OpenNwk
 pub mod Halves
 pub mod SecureNwk
+pub mod Ready

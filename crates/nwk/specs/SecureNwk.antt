@@ -17,7 +17,6 @@ use Rattle.header.specs.Nwk.{nwkOf}
 use Rattle.nib.specs.declared.outgoing.Outgoing.{Outgoing}
 use Rattle.nib.specs.Keys.{keyFound}
 use Rattle.nib.specs.Sending.{mayUse}
-use Rattle.nwk.specs.declared.secure.SecuredNwk.{SecuredNwk}
 use Rattle.nwk.specs.declared.state.Nwk.{Nwk}
 use Rattle.protection.specs.Protection.{level, securedOctets}
 
@@ -26,10 +25,6 @@ pub record Secured : Type 0 where
   pub answer : Answer
   pub out : List ℕ
   pub outgoing : Outgoing
-
--- by what the call returns and what it has written
-abbrev pub left : SecuredNwk → List ℕ → Secured
-left r out = record { answer = r .answer; out = out; outgoing = r .outgoing }
 
 -- a refusal changes nothing
 abbrev pub notSecured : Refusal → List ℕ → Outgoing → Secured

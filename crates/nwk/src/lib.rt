@@ -1,10 +1,17 @@
 // Opening and securing NWK frames (security/mod.rs of the Rust; document 01, 'Order of checks').
+mod bridge;
+mod finish;
+mod judge;
 mod open;
+mod ready;
 mod secure;
 mod state;
 
+pub use bridge::OpenedWith;
+pub use bridge::SecuredWith;
+pub use bridge::open_with;
+pub use bridge::secure_with;
 pub use open::OpenedNwk;
 pub use open::open_nwk;
-pub use secure::SecuredNwk;
 pub use secure::secure_nwk;
 pub use state::Nwk;

@@ -10,3 +10,5 @@ pub mod Shared
 pub mod LocalArray
 pub mod Lends
 pub mod Walk
+pub mod Lends
+pub mod LocalValue

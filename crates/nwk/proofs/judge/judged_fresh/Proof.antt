@@ -1,4 +1,4 @@
--- `nwk::open::judged_fresh` meets its contract. Assumes nothing.
+-- `nwk::judge::judged_fresh` meets its contract. Assumes nothing.
 use mathlib.Core.Path.{refl}
 use Prim.Native.Nat.{_+_}
 use native.Mathlib.Omega.{arith}
@@ -7,8 +7,8 @@ use borrow.Author.Needs.{needs}
 use borrow.Author.Tests.{lt-ltb}
 use Rattle.nwk.specs.Halves.{judgedFresh}
 use Rattle.nwk.proofs.Commit.{wrong-gives, full-gives, opens-gives}
-use Rattle.nwk.proofs.open.judged_fresh.Statement.{statement}
-use Rattle.nwk.proofs.open.judged_fresh.Tie as tie
+use Rattle.nwk.proofs.judge.judged_fresh.Statement.{statement}
+use Rattle.nwk.proofs.judge.judged_fresh.Tie as tie
 
 returns : tie.Need-returns
 unfolding judgedFresh

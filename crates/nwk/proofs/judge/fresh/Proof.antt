@@ -1,8 +1,8 @@
--- `nwk::open::fresh` meets its contract. Assumes nothing.
+-- `nwk::judge::fresh` meets its contract. Assumes nothing.
 use borrow.Author.Needs.{needs}
 use borrow.Author.Tests.{eq-eqb, ne-eqb, lt-ltb, le-ltb}
-use Rattle.nwk.proofs.open.fresh.Statement.{statement}
-use Rattle.nwk.proofs.open.fresh.Tie as tie
+use Rattle.nwk.proofs.judge.fresh.Statement.{statement}
+use Rattle.nwk.proofs.judge.fresh.Tie as tie
 
 returns : tie.Need-returns
 returns c = rw (c .before .before .known .given .1, eq-eqb _ _ (c .if1 .taken))

@@ -1,8 +1,8 @@
--- `nwk::open::active_after` meets its contract. Assumes nothing.
+-- `nwk::judge::active_after` meets its contract. Assumes nothing.
 use mathlib.Core.Path.{_∙_}
 use borrow.Author.Needs.{needs}
-use Rattle.nwk.proofs.open.active_after.Statement.{statement}
-use Rattle.nwk.proofs.open.active_after.Tie as tie
+use Rattle.nwk.proofs.judge.active_after.Statement.{statement}
+use Rattle.nwk.proofs.judge.active_after.Tie as tie
 
 returns : tie.Need-returns
 returns c = c .turned .ensures ∙ rw (c .before .enum-told .given .1)

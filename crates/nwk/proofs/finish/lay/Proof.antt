@@ -1,12 +1,12 @@
--- `nwk::secure::lay` meets its contract. Assumes nothing.
+-- `nwk::finish::lay` meets its contract. Assumes nothing.
 use mathlib.Core.Path.{sym}
 use native.Mathlib.Omega.{arith}
 use lib.ListN.{length-take}
 use lib.Seq.{length-take-le}
 use borrow.Author.Needs.{needs}
 use Rattle.nwk.proofs.SecuringLaws.{auxiliary-size, laid}
-use Rattle.nwk.proofs.secure.lay.Statement.{statement}
-use Rattle.nwk.proofs.secure.lay.Tie as tie
+use Rattle.nwk.proofs.finish.lay.Statement.{statement}
+use Rattle.nwk.proofs.finish.lay.Tie as tie
 
 slice-aggregate-copy : tie.Need-slice-aggregate-copy
 slice-aggregate-copy c = let s = c .before .before .before in sym (length-take-le (s .args .header) (s .args .plain .now) (s .pre .0))

@@ -1,10 +1,10 @@
--- `nwk::open::judged` meets its contract. Assumes nothing.
+-- `nwk::judge::judged` meets its contract. Assumes nothing.
 use mathlib.Core.Path.{sym, ap, _∙_}
 use borrow.Author.Needs.{needs}
 use Rattle.protection.specs.Heard.{Heard}
 use Rattle.nwk.proofs.Commit.{judged-stale, judged-as-fresh}
-use Rattle.nwk.proofs.open.judged.Statement.{statement}
-use Rattle.nwk.proofs.open.judged.Tie as tie
+use Rattle.nwk.proofs.judge.judged.Statement.{statement}
+use Rattle.nwk.proofs.judge.judged.Tie as tie
 
 returns : tie.Need-returns
 returns c =

@@ -1,10 +1,8 @@
--- `nwk::secure::framed` meets its contract. Assumes nothing.
-use mathlib.Core.Path.{ap, sym, _∙_}
-use borrow.Author.Tests.{le-leb, lt-leb, lt-ltb, le-ltb, not-false}
+-- `nwk::ready::framed` meets its contract. Assumes nothing.
+use borrow.Author.Tests.{le-leb, lt-leb, lt-ltb, le-ltb}
 use borrow.Author.Needs.{needs}
-use Rattle.nib.specs.declared.keys.KeyFound.{KeyFound}
-use Rattle.nwk.proofs.secure.framed.Statement.{statement}
-use Rattle.nwk.proofs.secure.framed.Tie as tie
+use Rattle.nwk.proofs.ready.framed.Statement.{statement}
+use Rattle.nwk.proofs.ready.framed.Tie as tie
 
 returns : tie.Need-returns
 returns c =
@@ -31,18 +29,11 @@ returns-5 c =
     let k = u .before .before .before in
     rw (c .refuse5 .ensures, lt-leb _ _ (k .before .before .before .if1 .left), k .before .if2 .left, ← k .key-of .ensures, u .before .if3 .left, ← u .usable .ensures, c .before .before .if4 .left, lt-ltb _ _ (c .before .if5 .taken))
 
-finish-requires : tie.Need-finish-requires
-finish-requires c κs =
-    let u = c .before .before .before .before in
-    let k = u .before .before .before in
-    (ap (λ (f : KeyFound). f .row) (k .key-of .ensures), sym (u .usable .ensures) ∙ not-false _ (c .before .before .before .if4 .left), search needs, search needs, search needs)
-
 returns-6 : tie.Need-returns-6
 returns-6 c =
-    let n = c .before .before .before .before .before in
-    let u = n .before .before in
+    let u = c .before .before in
     let k = u .before .before .before in
-    c .before .before .finish .ensures ∙ rw (lt-leb _ _ (k .before .before .before .if1 .left), k .before .if2 .left, ← k .key-of .ensures, u .before .if3 .left, ← u .usable .ensures, n .before .if4 .left, le-ltb _ _ (n .if5 .left))
+    rw (lt-leb _ _ (k .before .before .before .if1 .left), k .before .if2 .left, ← k .key-of .ensures, u .before .if3 .left, ← u .usable .ensures, c .before .if4 .left, le-ltb _ _ (c .if5 .left))
 
 pub framed-spec : {M : Type 1} → statement M
 framed-spec =
@@ -61,6 +52,5 @@ framed-spec =
     (λ c. search needs)
     (λ c κs. search needs)
     returns-5
-    finish-requires
     (λ c. search needs)
     returns-6)
