@@ -10,5 +10,4 @@ pub mod Shared
 pub mod LocalArray
 pub mod Lends
 pub mod Walk
-pub mod Lends
 pub mod LocalValue
