@@ -8,6 +8,7 @@ use frame::Control;
 use frame::KeyIdentifier;
 use libc::STDIN_FILENO;
 use libc::STDOUT_FILENO;
+use nib::CounterRow;
 use nib::NetworkKey;
 use nib::NetworkKeys;
 use nib::Outgoing;
@@ -84,18 +85,28 @@ fn gateway(active: u8, key_number: u8) -> Nwk {
 fn opened(name: &[u8], nwk: Nwk, used: usize, held: u32, frame: &mut [u8]) {
     let keys = nwk.keys;
     let row = keys.rows[0];
+<<<<<<< HEAD
     let mut numbers = [row.number; 4];
     let mut senders = [LOGGER; 4];
     let mut counters = [held; 4];
     let after = nwk::open_nwk(nwk, &mut numbers, &mut senders, &mut counters, used, frame);
+=======
+    let heard = CounterRow {
+        number: row.number,
+        sender: 0x0011223344556677,
+        counter: held,
+    };
+    let after = nwk::open_with(nwk, [heard; 64], used, frame);
+>>>>>>> d5957e9c8ba67798cbd4b9d84108cd9fb9b5807b
     let answer = after.answer;
+    let rows = after.rows;
     let told = answer::told_of(answer);
     text(name);
     number(told.number as u64);
     number(told.start as u64);
     number(told.len as u64);
-    let counter = counters[0];
-    number(wide(counter));
+    let first = rows[0];
+    number(wide(first.counter));
     number(after.active as u64);
     text(b"\n");
 }
@@ -195,10 +206,14 @@ fn outgoing() {
     text(b"P9 reset at 0x80000000, 0x80000001:");
     number(nib::reset(Outgoing { next: 0x80000000 }).next as u64);
     number(nib::reset(Outgoing { next: 0x80000001 }).next as u64);
-    let taken = nib::take(Outgoing { next: 4294967295 });
-    let outcome = taken.outcome;
+    let plain = [0x08, 0x02, 0x00, 0x00, 0x34, 0x12, 0x1e, 0x01, 0x54];
+    let mut out = [0u8; 32];
+    let last = Outgoing { next: 4294967295 };
+    let secured = nwk::secure_with(gateway(7, 7), last, &plain, &mut out);
+    let answer = secured.answer;
+    let told = answer::told_of(answer);
     text(b"\nP10 NWK outgoing 2^32-1:");
-    number(answer::outcome_number(outcome) as u64);
+    number(told.number as u64);
     text(b"\n");
 }
 

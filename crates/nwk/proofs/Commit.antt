@@ -16,7 +16,7 @@ use Rattle.answer.specs.declared.Outcome.{Outcome}
 use Rattle.answer.specs.declared.Outcome.the-variants.{Done, Refused}
 use Rattle.answer.specs.declared.Refusal.{Refusal}
 use Rattle.answer.specs.declared.Refusal.the-variants.{Unsupported, Cut, CounterRepeated, CounterBehind, WrongTag, TableFull}
-use Rattle.cells.specs.Rows.{Reaction, leave, become, find, put, room, settle}
+use Rattle.cells.specs.Rows.{Reaction, leave, become, find, room, settle}
 use Rattle.nib.specs.declared.counters.CounterRow.{CounterRow}
 use Rattle.nib.specs.declared.counters.Known.{Known}
 use Rattle.nib.specs.declared.counters.Known.the-variants.{Nothing, Counter}
@@ -133,14 +133,15 @@ module _ (s : Nwk) (standing : Standing) (b : List ℕ) (c : Claim) where
       → (told ≡ (judgedHeard (s .keys) c standing b) .answer) × (x ≡ (judgedHeard (s .keys) c standing b) .frame)
       → active ≡ activeAfter (s .active) number told → opens ≡ isOpened told
       → (record { answer = told; active = active; opens = opens } ≡ verdictOf s w standing b) × (x ≡ heardFrame s w standing b)
-  claim-judged w number told active opens x ew en eh ea eo =
-      (rw ew
-      (λ i. record {
-        answer = eh .0 i;
-        active = (ea ∙ (λ j. activeAfter (s .active) (en j) (eh .0 j))) i;
-        opens = (eo ∙ ap isOpened (eh .0)) i;
-      }),
-      rw ew (eh .1))
+  claim-judged w number told active opens x ew en eh ea eo = (
+    rw ew
+        (λ i. record {
+          answer = eh .0 i;
+          active = (ea ∙ (λ j. activeAfter (s .active) (en j) (eh .0 j))) i;
+          opens = (eo ∙ ap isOpened (eh .0)) i;
+        }),
+    rw ew (eh .1),
+  )
 
 -- ---- the commit
 

@@ -1,19 +1,19 @@
 -- The round trip of NWK: what `secureNwk` makes, a gateway with the same key under the same number opens to the same payload.
 -- Assumes nothing.
 use mathlib.Core.Path.{_≡_, refl, sym, ap, _∙_}
-use mathlib.Core.Bool.{Bool, true, false, cond, not, _||_}
+use mathlib.Core.Bool.{true, false}
 use mathlib.Core.List.{List, _++_, append-assoc}
 use mathlib.Core.Option.{Option, none, some}
 use Prim.Native.Nat.{ℕ, _+_, _-_, _^_, _≤_, _<_}
 use native.Mathlib.Omega.{arith}
-use lib.Dec.{eqb, leb, ltb}
+use lib.Dec.{eqb, ltb}
 use lib.ListN.{length, take, drop, length-append, length-drop}
 use lib.Seq.{length-take-le, take-at}
-use borrow.Author.Tests.{le-ltb, ne-eqb, ltb-false, leb-true, not-true, not-false}
+use borrow.Author.Tests.{le-ltb, ne-eqb, not-true}
 use Rattle.laws.specs.Numbers.{bit}
 use Rattle.answer.specs.declared.Answer.the-variants.{Done}
 use Rattle.answer.specs.declared.Refusal.{Refusal}
-use Rattle.answer.specs.declared.Refusal.the-variants.{Unsupported, NoNetworkKey, CounterExhausted, NoRoom, TableFull}
+use Rattle.answer.specs.declared.Refusal.the-variants.{TableFull}
 use Rattle.cells.specs.Rows.{become, find, put, room, settle}
 use Rattle.frame.specs.Control.{sent, hasSender, hasNumber, identifierOf}
 use Rattle.frame.specs.declared.control.KeyIdentifier.the-variants.{Network}
@@ -30,15 +30,14 @@ use Rattle.nib.specs.declared.counters.CounterRow.{CounterRow}
 use Rattle.nib.specs.declared.outgoing.Outgoing.{Outgoing}
 use Rattle.nib.specs.Counters.{counterRows, capacity, pair}
 use Rattle.nib.specs.Keys.{keyFound}
-use Rattle.nib.specs.Sending.{mayUse}
 use Rattle.protection.specs.declared.claims.Claim.{Claim}
 use Rattle.protection.specs.declared.claims.Who.the-variants.{Claims}
 use Rattle.protection.specs.Claims.{spent, nwkWho}
 use Rattle.protection.specs.Heard.{refused, equals, below}
-use Rattle.protection.specs.Protection.{level, tagSize, payloadSize, vouches, openedOctets}
+use Rattle.protection.specs.Protection.{tagSize, payloadSize, vouches, openedOctets}
 use Rattle.nwk.specs.declared.state.Nwk.{Nwk}
 use Rattle.nwk.specs.OpenNwk.{Opened, nwkCommitted, nwkJudged, nwkPlaced, nwkUnfit, openNwk}
-use Rattle.nwk.specs.SecureNwk.{Secured, notSecured, nwkAdded, nwkHeaders, nwkOnAir, nwkDone, nwkFramed, secureNwk}
+use Rattle.nwk.specs.SecureNwk.{Secured, nwkAdded, nwkHeaders, nwkOnAir, secureNwk}
 use Rattle.protection.proofs.RoundTrip as protection
 use Rattle.nwk.proofs.ReadyLaws.{Checked, is-checked}
 use Rattle.nwk.proofs.SecuringLaws.{auxiliary-size}

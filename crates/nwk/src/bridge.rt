@@ -20,12 +20,7 @@ pub struct OpenedWith {
 }
 
 // `open_nwk`, with 64 counter rows by value.
-pub fn open_with(
-    nwk: Nwk,
-    rows: [CounterRow; 64],
-    used: usize,
-    frame: &mut [u8],
-) -> OpenedWith
+pub fn open_with(nwk: Nwk, rows: [CounterRow; 64], used: usize, frame: &mut [u8]) -> OpenedWith
     ensures { λ r. ⌜ openedWith r (now (frame .exit)) ≡ openNwk nwk rows used (now (frame .entry)) ⌝ }
 {
     let mut lent = rows;

@@ -16,19 +16,20 @@ pub struct OpenedNwk {
 }
 
 // Opens a frame in place. The counter rows are the caller's, and the first `used` of them are in use.
-pub fn open_nwk(
-    nwk: Nwk,
-    rows: &mut [CounterRow],
-    used: usize,
-    frame: &mut [u8],
-) -> OpenedNwk
+pub fn open_nwk(nwk: Nwk, rows: &mut [CounterRow], used: usize, frame: &mut [u8]) -> OpenedNwk
     ensures { λ r. ⌜ opened r (now (rows .exit)) (now (frame .exit)) ≡ openNwk nwk (now (rows .entry)) used (now (frame .entry)) ⌝ }
 {
     let caller = caller_of(nwk, rows.len(), used, frame);
     let standing = counter_rows::held(rows, used, caller.number, caller.sender);
     let verdict = judge(nwk, caller.who, standing, frame);
     if verdict.opens {
-        let recorded = counter_rows::record(rows, used, caller.number, caller.sender, caller.counter);
+        let recorded = counter_rows::record(
+            rows,
+            used,
+            caller.number,
+            caller.sender,
+            caller.counter,
+        );
         return OpenedNwk {
             answer: verdict.answer,
             used: recorded.used,

@@ -5,7 +5,7 @@ use mathlib.Core.List.{List}
 use Prim.Native.Nat.{ℕ, _+_, _-_, _<_, _≤_}
 use native.Mathlib.Omega.{arith}
 use lib.Dec.{leb, ltb}
-use lib.ListN.{length, getD, take, drop, length-drop}
+use lib.ListN.{length, getD, set, take, drop, length-drop}
 use lib.Seq.{take-all}
 use borrow.Author.Tests.{eq-eqb, lt-leb, lt-ltb, le-ltb, ltb-false}
 use Rattle.laws.specs.Numbers.{field}
@@ -15,17 +15,15 @@ use Rattle.answer.specs.declared.Told.{Told}
 use Rattle.answer.specs.Numbers.{told}
 use Rattle.cells.specs.Rows.{placeOf, hasRow}
 use Rattle.cells.specs.Search.{lent-row}
-use Rattle.nib.specs.declared.counters.Recorded.{Recorded}
 use Rattle.nib.specs.declared.keys.KeyFound.{KeyFound}
 use Rattle.nib.specs.declared.keys.NetworkKeys.{NetworkKeys}
-use Rattle.nib.specs.Counters.{counterRows, pair, recorded, empty}
+use Rattle.nib.specs.Counters.{capacity, counterRows, pair, empty}
+use Rattle.nib.specs.CounterLaws.{at-le, recorded-new}
 use Rattle.nib.specs.Keys.{keyFound}
-use Rattle.nib.specs.Lent.{rowsOf, Leaves}
-use Rattle.nib.specs.LentLaws.{columns, rows-length}
 use Rattle.protection.specs.Claims.{nwkWho}
 use Rattle.protection.specs.Heard.{refused}
-use Rattle.nwk.specs.declared.open.OpenedNwk.{OpenedNwk}
-use Rattle.nwk.specs.Halves.{Opens}
+use Rattle.nwk.specs.declared.bridge.OpenedWith.{OpenedWith}
+use Rattle.nwk.specs.Halves.{openedWith}
 use Rattle.nwk.specs.OpenNwk.{Opened, openNwk, nwkPlaced, nwkUnfit, unchanged}
 use Rattle.reader.specs.declared.fields.Field.{Field}
 use Rattle.reader.specs.declared.fields.FieldRead.{FieldRead}
@@ -33,7 +31,7 @@ use Rattle.reader.specs.declared.fields.FieldRead.the-variants.{Whole, C
 use Rattle.reader.specs.declared.reading.Reader.{Reader}
 use Rattle.reader.specs.declared.reading.Event.the-variants.{Tells}
 use Rattle.reader.specs.Fields.{fieldAt}
-use Rattle.reader.specs.Reading.{bad, quiet, rowsIn, withNwk, withKeys, withKey, withActive, counted, keyField, counterField, frameField, presented, taken, stepped}
+use Rattle.reader.specs.Reading.{bad, quiet, withNwk, withKeys, withKey, withActive, counted, keyField, counterField, frameField, presented, taken, stepped}
 
 -- ---- a key row, by what the search found
 
@@ -52,67 +50,63 @@ module _ (r : Reader) (body : List ℕ) (f : KeyFound) (size : length body ≡ 1
 
 -- ---- a counter row, by the place that the search yields
 
-abbrev pub Sizes : Reader → Type 0
-Sizes r = (length (r .numbers) ≡ 64) × (length (r .senders) ≡ 64) × (length (r .counters) ≡ 64)
-
-module _ (r : Reader) (body : List ℕ) (sizes : Sizes r) (n s place : ℕ) (size : length body ≡ 13) (room : r .used < 64) (is-number : n ≡ getD body 0 0) (is-sender : s ≡ field body 1 8)
-    (is-place : (cs : List ℕ) → r .used ≤ length cs → place ≡ placeOf counterRows (take (r .used) (rowsOf (r .numbers) (r .senders) cs)) (pair n s)) where
-  known : (b : Bool) → ltb place (r .used) ≡ b → hasRow counterRows (take (r .used) (rowsIn r)) (pair (getD body 0 0) (field body 1 8)) ≡ b
-  known b e =
-      let here = is-place (r .counters) (omega arith) in
-      let in-use : r .used ≤ length (rowsIn r) = omega (arith, rows-length (r .numbers) (r .senders) (r .counters)) in
-      rw (← is-number, ← is-sender) (lent-row counterRows (rowsIn r) (r .used) (pair n s) empty in-use ∙ ap (λ (p : ℕ). ltb p (r .used)) (sym here) ∙ e)
+module _ (r : Reader) (body : List ℕ) (long : length (r .rows) ≡ 64) (n s place : ℕ) (size : length body ≡ 13) (room : r .used < 64) (is-number : n ≡ getD body 0 0) (is-sender : s ≡ field body 1 8)
+    (is-place : place ≡ placeOf counterRows (take (r .used) (r .rows)) (pair n s)) where
+  known : (b : Bool) → ltb place (r .used) ≡ b → hasRow counterRows (take (r .used) (r .rows)) (pair (getD body 0 0) (field body 1 8)) ≡ b
+  known b e = rw (← is-number, ← is-sender) (lent-row counterRows (r .rows) (r .used) (pair n s) empty (omega arith) ∙ ap (λ (p : ℕ). ltb p (r .used)) (sym is-place) ∙ e)
 
   pub row-repeated : place < r .used → bad r ≡ counterField r body
   unfolding counterField
   row-repeated h = rw (eq-eqb (length body) 13 size, lt-leb 64 (r .used) room, known true (lt-ltb place (r .used) h))
 
-  pub row-taken : (c : ℕ) (t : Recorded) (ns ss cs : List ℕ) → r .used ≤ place → c ≡ field body 9 4
-      → Leaves (r .numbers) (r .senders) (r .counters) (recorded (rowsIn r) (r .used) (pair n s) c) t ns ss cs
-      → quiet (record { nwk = r .nwk; numbers = ns; senders = ss; counters = cs; used = t .used; at = r .at; frames = r .frames }) ≡ counterField r body
+  -- the new row goes after the last
+  pub row-taken : (c : ℕ) → r .used ≤ place → c ≡ field body 9 4
+      → quiet (record { nwk = r .nwk; rows = set (r .rows) (r .used) (record { number = n; sender = s; counter = c }); used = r .used + 1; at = r .at; frames = r .frames }) ≡ counterField r body
   unfolding counterField
-  row-taken c t ns ss cs h is-counter w =
-      rw (eq-eqb (length body) 13 size, lt-leb 64 (r .used) room, known false (le-ltb place (r .used) h), ← is-number, ← is-sender, ← is-counter)
-      (λ i. quiet (record { nwk = r .nwk; numbers = w .numbers i; senders = w .senders i; counters = w .counters i; used = w .used i; at = r .at; frames = r .frames }))
+  row-taken c h is-counter =
+      let fits : r .used ≤ capacity (length (r .rows)) = omega arith in
+      let under = at-le (r .rows) (r .used) (pair n s) fits in
+      let last : placeOf counterRows (take (r .used) (r .rows)) (pair n s) ≡ r .used = omega arith in
+      let w = recorded-new (r .rows) (r .used) (pair n s) fits c last (omega arith) in
+      rw (eq-eqb (length body) 13 size, lt-leb 64 (r .used) room, known false (le-ltb place (r .used) h), ← is-number, ← is-sender, ← is-counter, w, last)
 
 -- ---- a frame
 
 module _ (r : Reader) (body : List ℕ) where
-  -- what an opening leaves, list by list
-  pub frame-opened : (b : List ℕ) (k : ℕ) (t : Told) (o : OpenedNwk) (ns ss cs frame : List ℕ) → b ≡ body → k ≡ counted (r .frames) → t ≡ told (o .answer)
-      → Opens (r .numbers) (r .senders) (r .counters) (openNwk (r .nwk) (rowsIn r) (r .used) b) o ns ss cs frame
+  -- what an opening leaves
+  pub frame-opened : (b : List ℕ) (k : ℕ) (t : Told) (o : OpenedWith) (frame : List ℕ) → b ≡ body → k ≡ counted (r .frames) → t ≡ told (o .answer)
+      → openedWith o frame ≡ openNwk (r .nwk) (r .rows) (r .used) b
       → record {
         event = Tells (record { frame = k; told = t });
-        reader = record { nwk = withActive (r .nwk) (o .active); numbers = ns; senders = ss; counters = cs; used = o .used; at = r .at; frames = k };
+        reader = record { nwk = withActive (r .nwk) (o .active); rows = o .rows; used = o .used; at = r .at; frames = k };
       } ≡ frameField r body
   unfolding frameField
-  frame-opened b k t o ns ss cs frame is-body is-count is-told w =
+  frame-opened b k t o frame is-body is-count is-told w =
       (λ i. record {
-        event = Tells (record { frame = is-count i; told = (is-told ∙ ap told (w .answer)) i });
-        reader = record { nwk = withActive (r .nwk) (w .active i); numbers = w .numbers i; senders = w .senders i; counters = w .counters i; used = w .used i; at = r .at; frames = is-count i };
+        event = Tells (record { frame = is-count i; told = (is-told ∙ ap (λ (x : Opened). told (x .answer)) w) i });
+        reader = record { nwk = withActive (r .nwk) ((w i) .active); rows = (w i) .rows; used = (w i) .used; at = r .at; frames = is-count i };
       })
       ∙ ap (frameField r) is-body
 
   -- one of more than 1,024 bytes, whatever the state
-  too-long : 1024 < length body → openNwk (r .nwk) (rowsIn r) (r .used) body ≡ unchanged (r .nwk) (rowsIn r) (r .used) (refused Unsupported body)
+  too-long : 1024 < length body → openNwk (r .nwk) (r .rows) (r .used) body ≡ unchanged (r .nwk) (r .rows) (r .used) (refused Unsupported body)
   unfolding openNwk nwkPlaced nwkWho
-  too-long h = rw (lt-ltb 1024 (length body) h) (either (nwkUnfit (r .nwk) (rowsIn r) (r .used)))
+  too-long h = rw (lt-ltb 1024 (length body) h) (either (nwkUnfit (r .nwk) (r .rows) (r .used)))
     where
-      either : (b : Bool) → cond b (unchanged (r .nwk) (rowsIn r) (r .used) (refused Unsupported body)) (unchanged (r .nwk) (rowsIn r) (r .used) (refused Unsupported body)) ≡ unchanged (r .nwk) (rowsIn r) (r .used) (refused Unsupported body)
+      either : (b : Bool) → cond b (unchanged (r .nwk) (r .rows) (r .used) (refused Unsupported body)) (unchanged (r .nwk) (r .rows) (r .used) (refused Unsupported body)) ≡ unchanged (r .nwk) (r .rows) (r .used) (refused Unsupported body)
       either true = refl
       either false = refl
 
   pub frame-refused : (k : ℕ) (t : Told) → k ≡ counted (r .frames) → t ≡ told (Refused Unsupported) → 1024 < length body
       → record {
         event = Tells (record { frame = k; told = t });
-        reader = record { nwk = r .nwk; numbers = r .numbers; senders = r .senders; counters = r .counters; used = r .used; at = r .at; frames = k };
+        reader = record { nwk = r .nwk; rows = r .rows; used = r .used; at = r .at; frames = k };
       } ≡ frameField r body
   unfolding frameField
   frame-refused k t is-count is-told h =
-      let same = columns (r .numbers) (r .senders) (r .counters) in
       (λ i. record {
         event = Tells (record { frame = is-count i; told = is-told i });
-        reader = record { nwk = r .nwk; numbers = same .0 i; senders = same .1 i; counters = same .2 i; used = r .used; at = r .at; frames = is-count i };
+        reader = record { nwk = r .nwk; rows = r .rows; used = r .used; at = r .at; frames = is-count i };
       })
       ∙ sym (ap (λ (x : Opened). record { event = Tells (record { frame = counted (r .frames); told = told (x .answer) }); reader = presented r x }) (too-long h))
 

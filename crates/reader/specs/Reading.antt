@@ -10,9 +10,8 @@ use Rattle.cells.specs.Rows.{hasRow}
 use Rattle.nib.specs.declared.counters.CounterRow.{CounterRow}
 use Rattle.nib.specs.declared.keys.NetworkKey.{NetworkKey}
 use Rattle.nib.specs.declared.keys.NetworkKeys.{NetworkKeys}
-use Rattle.nib.specs.Counters.{After, counterRows, pair, recorded}
+use Rattle.nib.specs.Counters.{After, counterRows, pair, recorded, empty}
 use Rattle.nib.specs.Keys.{keyFound, none-found}
-use Rattle.nib.specs.Lent.{rowsOf, column, number, sender, counter}
 use Rattle.nib.specs.Pairs.{Pair}
 use Rattle.nwk.specs.declared.state.Nwk.{Nwk}
 use Rattle.nwk.specs.OpenNwk.{Opened, openNwk}
@@ -28,9 +27,7 @@ use Rattle.reader.specs.Fields.{fieldAt}
 unfoldable pub started : Reader
 started = record {
   nwk = record { level = 5; own = 0; active = 0; keys = record { rows = replicate 2 none-found; used = 0 } };
-  numbers = replicate 64 0;
-  senders = replicate 64 0;
-  counters = replicate 64 0;
+  rows = replicate 64 empty;
   used = 0;
   at = 0;
   frames = 0;
@@ -38,25 +35,14 @@ started = record {
 
 -- ---- what a field leaves
 
-abbrev pub rowsIn : Reader → List CounterRow
-rowsIn r = rowsOf (r .numbers) (r .senders) (r .counters)
-
 abbrev pub withNwk : Reader → Nwk → Reader
-withNwk r nwk = record { nwk = nwk; numbers = r .numbers; senders = r .senders; counters = r .counters; used = r .used; at = r .at; frames = r .frames }
+withNwk r nwk = record { nwk = nwk; rows = r .rows; used = r .used; at = r .at; frames = r .frames }
 
 abbrev pub withRows : Reader → List CounterRow → ℕ → Reader
-withRows r rows used = record {
-  nwk = r .nwk;
-  numbers = column number rows (r .numbers);
-  senders = column sender rows (r .senders);
-  counters = column counter rows (r .counters);
-  used = used;
-  at = r .at;
-  frames = r .frames;
-}
+withRows r rows used = record { nwk = r .nwk; rows = rows; used = used; at = r .at; frames = r .frames }
 
 abbrev pub movedTo : Reader → ℕ → Reader
-movedTo r at = record { nwk = r .nwk; numbers = r .numbers; senders = r .senders; counters = r .counters; used = r .used; at = at; frames = r .frames }
+movedTo r at = record { nwk = r .nwk; rows = r .rows; used = r .used; at = at; frames = r .frames }
 
 abbrev pub bad : Reader → Step
 bad r = record { event = Bad; reader = r }
@@ -89,8 +75,8 @@ counterField r body =
     let k : Pair = pair (getD body 0 0) (field body 1 8) in
     cond (not (eqb (length body) 13)) (bad r)
     (cond (leb 64 (r .used)) (bad r)
-    (cond (hasRow counterRows (take (r .used) (rowsIn r)) k) (bad r)
-    (quiet (withRow r (recorded (rowsIn r) (r .used) k (field body 9 4))))))
+    (cond (hasRow counterRows (take (r .used) (r .rows)) k) (bad r)
+    (quiet (withRow r (recorded (r .rows) (r .used) k (field body 9 4))))))
 
 -- ---- 0x03: the active number
 
@@ -108,9 +94,7 @@ counted frames = (frames + 1) % 2 ^ 64
 abbrev pub presented : Reader → Opened → Reader
 presented r o = record {
   nwk = withActive (r .nwk) (o .active);
-  numbers = column number (o .rows) (r .numbers);
-  senders = column sender (o .rows) (r .senders);
-  counters = column counter (o .rows) (r .counters);
+  rows = o .rows;
   used = o .used;
   at = r .at;
   frames = counted (r .frames);
@@ -118,7 +102,7 @@ presented r o = record {
 
 unfoldable pub frameField : Reader → List ℕ → Step
 frameField r body =
-    let o : Opened = openNwk (r .nwk) (rowsIn r) (r .used) body in
+    let o : Opened = openNwk (r .nwk) (r .rows) (r .used) body in
     record { event = Tells (record { frame = counted (r .frames); told = told (o .answer) }); reader = presented r o }
 
 -- ---- one field: an unknown tag is bad

@@ -18,7 +18,7 @@ use Rattle.reader.specs.declared.reading.Event.the-variants.{Quiet, Tell
 use Rattle.reader.specs.declared.reading.Reader.{Reader}
 use Rattle.reader.specs.declared.reading.Step.{Step}
 use Rattle.reader.specs.Fields.{fieldAt}
-use Rattle.reader.specs.Reading.{Printed, started, bad, rowsIn, movedTo, keyField, counterField, activeField, frameField, acted, taken, stepped, printed, linesFrom, lines}
+use Rattle.reader.specs.Reading.{Printed, started, bad, movedTo, keyField, counterField, activeField, frameField, acted, taken, stepped, printed, linesFrom, lines}
 
 -- what is printed from here on is what one step prints, and then the rest
 pub unrolls : (n : ℕ) (s : List ℕ) (r : Reader) → linesFrom (suc n) s r ≡ printed ((stepped r s) .event) (linesFrom n s ((stepped r s) .reader))
@@ -44,7 +44,7 @@ module _ (r : Reader) (body : List ℕ) where
   counter-stays =
       either (r .at) (not (eqb (length body) 13)) _ _ refl
       (either (r .at) (leb 64 (r .used)) _ _ refl
-      (either (r .at) (hasRow counterRows (take (r .used) (rowsIn r)) (pair (getD body 0 0) (field body 1 8))) _ _ refl refl))
+      (either (r .at) (hasRow counterRows (take (r .used) (r .rows)) (pair (getD body 0 0) (field body 1 8))) _ _ refl refl))
 
   active-stays : (activeField r body) .reader .at ≡ r .at
   unfolding activeField

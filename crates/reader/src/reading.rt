@@ -11,6 +11,7 @@ use crate::rows::with_key;
 use answer::Answer;
 use answer::Refusal;
 use answer::Told;
+use nib::CounterRow;
 use nib::NetworkKey;
 use nib::NetworkKeys;
 use nwk::Nwk;
@@ -18,9 +19,7 @@ use nwk::Nwk;
 // The gateway, the place in the input, and how many frames were presented.
 pub struct Reader {
     pub nwk: Nwk,
-    pub numbers: [u8; 64],
-    pub senders: [u64; 64],
-    pub counters: [u32; 64],
+    pub rows: [CounterRow; 64],
     pub used: usize,
     pub at: usize,
     pub frames: u64,
@@ -52,6 +51,11 @@ pub fn start() -> Reader
         number: 0,
         key: [0; 16],
     };
+    let empty = CounterRow {
+        number: 0,
+        sender: 0,
+        counter: 0,
+    };
     Reader {
         nwk: Nwk {
             level: 5,
@@ -62,9 +66,7 @@ pub fn start() -> Reader
                 used: 0,
             },
         },
-        numbers: [0; 64],
-        senders: [0; 64],
-        counters: [0; 64],
+        rows: [empty; 64],
         used: 0,
         at: 0,
         frames: 0,
@@ -127,26 +129,18 @@ fn counter_field(reader: Reader, body: &[u8]) -> Step
     let number = body[0];
     let sender = frame::number_at(body, 1, 8);
     let counter = frame::number_at(body, 9, 4) as u32;
-    let mut numbers = reader.numbers;
-    let mut senders = reader.senders;
-    let mut counters = reader.counters;
-    if repeated(&numbers, &senders, used, number, sender) < used {
+    let mut rows = reader.rows;
+    if repeated(rows, used, number, sender) < used {
         return bad(reader);
     }
-    let recorded = nib::record(
-        &mut numbers,
-        &mut senders,
-        &mut counters,
-        used,
+    rows[used] = CounterRow {
         number,
         sender,
         counter,
-    );
+    };
     let mut next = reader;
-    next.numbers = numbers;
-    next.senders = senders;
-    next.counters = counters;
-    next.used = recorded.used;
+    next.rows = rows;
+    next.used = used + 1;
     quiet(next)
 }
 
@@ -173,25 +167,15 @@ fn open_copy(reader: Reader, body: &[u8]) -> Step
     let mut frame = [0u8; 1024];
     bytes::copy(body, &mut frame);
     let mut nwk = reader.nwk;
-    let mut numbers = reader.numbers;
-    let mut senders = reader.senders;
-    let mut counters = reader.counters;
-    let opened = nwk::open_nwk(
-        nwk,
-        &mut numbers,
-        &mut senders,
-        &mut counters,
-        reader.used,
-        &mut frame[..n],
-    );
+    let rows = reader.rows;
+    let opened = nwk::open_with(nwk, rows, reader.used, &mut frame[..n]);
+    let after = opened.rows;
     let answer = opened.answer;
     let number = std::num::wrapping_add_u64(reader.frames, 1);
     nwk.active = opened.active;
     let next = Reader {
         nwk,
-        numbers,
-        senders,
-        counters,
+        rows: after,
         used: opened.used,
         at: reader.at,
         frames: number,

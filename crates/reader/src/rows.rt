@@ -1,33 +1,26 @@
 // What fields add to the gateway's tables.
 ghost use mathlib.Core.Path.{_≡_};
-ghost use mathlib.Core.List.{List};
-ghost use Prim.Native.Nat.{ℕ, _≤_};
+ghost use Prim.Native.Nat.{_≤_};
 ghost use lib.ListN.{length, take};
 ghost use Rattle.cells.specs.Rows.{placeOf};
 ghost use Rattle.nib.specs.Counters.{counterRows, pair};
-ghost use Rattle.nib.specs.Lent.{rowsOf};
 ghost use Rattle.reader.specs.Reading.{withKey};
+use nib::CounterRow;
 use nib::NetworkKey;
 use nib::NetworkKeys;
 
 // The place of the row of that key number and sender among the first `used`, or `used` where the row would not be a repeated one.
-pub fn repeated(
-    numbers: &[u8; 64],
-    senders: &[u64; 64],
-    used: usize,
-    number: u8,
-    sender: u64,
-) -> usize
-    requires { ⌜ (used ≤ 64) × ((used ≤ length (now numbers)) × (used ≤ length (now senders))) ⌝ }
-    ensures { λ r. ⌜ ((cs : List ℕ) → used ≤ length cs → r ≡ placeOf counterRows (take used (rowsOf (now (numbers .entry)) (now (senders .entry)) cs)) (pair number sender)) ⌝ }
+pub fn repeated(rows: [CounterRow; 64], used: usize, number: u8, sender: u64) -> usize
+    requires { ⌜ used ≤ 64 ⌝ }
+    ensures { λ r. ⌜ r ≡ placeOf counterRows (take used rows) (pair number sender) ⌝ }
 {
     let mut i: usize = 0;
     'rows: loop {
         if i == used {
             break 'rows used;
         }
-        if numbers[i] == number {
-            if senders[i] == sender {
+        if rows[i].number == number {
+            if rows[i].sender == sender {
                 break 'rows i;
             }
         }

@@ -9,5 +9,5 @@ pub mod Again
 pub mod Shared
 pub mod LocalArray
 pub mod Lends
-pub mod Walk
 pub mod LocalValue
+pub mod Walk

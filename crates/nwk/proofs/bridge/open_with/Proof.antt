@@ -5,7 +5,7 @@ use denote.Struct.Laws as LL
 use denote.Enum.Laws as LE
 use denote.Triple.Walked.{stay-dropped, goes-dropped}
 use mathlib.Core.Option.{Option, none, some as that}
-use Rattle.walks.specs.Walk.{!, AllGo, Array, Atoms, Calls, Contract, Env, Field, Fml, FmC, Fun, GName, Given, Heap, Is, Item, Lft, List, Local, Loops, Memory, MutSlice, RattleType, RefT, Room, Routine, SProp, Share, Sq, Stays, T, Triple, Ty, URA, Val, WT, Walks, WpFn, [], _$_, _*_, _++_, _<_, _^_, _∙_, _∵_, _≡_, _⊛_, _∷_, addr, agg, alloc0, alloc1, and-then, ap, arith, array-makes, array-tells, array-typed, array-vals, arrayVal, assigns, atRet, await, cellAt, cited, concludes, done, drop, each, emp, ends-at, ent, enter, erased, fat, feqL, fjoin, fld, flent, flft, fmOf, frame, from, fsplit, fst∗, ftrue, fullShare, given, givenOf, goes-slice, hasTy, hop, id⊢, init, join, land, later, learn, leave, length, length-map, lft-end, lft-new, lit, lit<, load, look, look-in, map, move, mut, mut-slice-tells, named, no-more, nothing, number, of-opd, onEntry, only, owned, owns, params1, pass0, pass1, pick, places, plain, pointee, prop, qed, raw, refl, returns, rewrite, runs, says, shadow, slice-vals, sliceTy, sliceVal, some, split, stack, stay-slice, stop, sub, subst, suffices, sym, tables, tablesOf, tripleOf, tyArray, tyInt, tyRef, u8, uint-tells, uint-vals, use1, use3, usize, vcons, via, vint, vnil, vstruct, w64, w8, walkOf, walked, whole, yes, ‵, ℕ, ⋆}
+use Rattle.walks.specs.Walk.{ !, AllGo, Array, Atoms, Calls, Contract, Env, Field, Fml, FmC, Fun, GName, Given, Heap, Is, Item, Lft, List, Local, Loops, Memory, MutSlice, RattleType, RefT, Room, Routine, SProp, Share, Sq, Stays, T, Triple, URA, Val, WT, Walks, WpFn, [], _$_, _*_, _++_, _<_, _^_, _∙_, _∵_, _≡_, _⊛_, _∷_, addr, agg, alloc0, alloc1, and-then, ap, arith, array-tells, array-typed, array-vals, arrayVal, assigns, atRet, await, cellAt, cited, concludes, done, drop, each, emp, ends-at, ent, enter, erased, fat, feqL, fjoin, fld, flent, flft, fmOf, frame, from, fsplit, fst∗, ftrue, fullShare, given, givenOf, goes-slice, hasTy, hop, id⊢, init, join, land, later, learn, leave, length, length-map, lft-end, lft-new, lit, lit<, load, look, look-in, map, move, mut, mut-slice-tells, named, no-more, nothing, number, of-opd, onEntry, only, owned, owns, params1, pass0, pass1, pick, places, plain, pointee, prop, qed, raw, refl, returns, rewrite, runs, says, shadow, slice-vals, sliceTy, sliceVal, some, split, stack, stay-slice, stop, sub, subst, suffices, sym, tables, tablesOf, tripleOf, tyArray, tyInt, tyRef, u8, uint-tells, uint-vals, use1, use3, usize, vcons, via, vint, vnil, vstruct, w64, w8, walkOf, walked, whole, yes, ‵, ℕ, ⋆}
 use Rattle.walks.specs.Lends.{on-again, off-again, learns}
 use Rattle.walks.specs.LocalArray.{lends-local, local-back}
 use Rattle.answer.specs.declared.Answer.{Answer}

@@ -5,7 +5,7 @@ use denote.Enum.Laws as LE
 use denote.Signature.{shrSliceOf}
 use denote.Triple.Walked.{stay-dropped, goes-dropped}
 use mathlib.Core.Option.{Option, none, some as that}
-use Rattle.walks.specs.Walk.{!, AllGo, Atoms, Body, Calls, Contract, Env, Fml, FmC, Fun, GName, Given, Heap, Is, Item, Lft, List, Local, Loops, Memory, MutRef, MutSlice, RefT, Room, Routine, SProp, Share, ShrSlice, Sq, Stays, Triple, Ty, URA, Val, Walks, WpFn, [], _$_, _++_, _∵_, _≡_, _⊛_, _∷_, addr, agg, alloc0, alloc1, and-then, assigns, atRet, await, cellAt, cited, concludes, done, drop, emp, ends-at, ent, enter, erased, fat, feqL, fjoin, fld, flent, flft, fmOf, frame, from, fsplit, fst∗, ftrue, fullShare, given, givenOf, goes-slice, hop, id⊢, imm, init, join, land, later, learn, leave, length, lft-end, lft-new, load, look, look-in, mem, move, mut, mut-slice-tells, named, no-more, nothing, of-opd, onEntry, only, owned, owns, params1, pass0, pass1, pick, places, plain, pointee, prop, qed, raw, refl, returns, runs, says, shr-slice-tells, slice-vals, sliceTy, sliceVal, some, split, stack, stay-slice, stop, sub, suffices, tables, tablesOf, tripleOf, tyInt, tyRef, u8, use1, use3, via, vptr, w8, walkOf, walked, whole, yes, ‵, ℕ, ⋆}
+use Rattle.walks.specs.Walk.{ !, AllGo, Atoms, Body, Calls, Contract, Env, Fml, FmC, Fun, GName, Given, Heap, Is, Item, Lft, List, Local, Loops, Memory, MutRef, MutSlice, RefT, Room, Routine, SProp, Share, ShrSlice, Sq, Stays, Triple, URA, Val, Walks, WpFn, [], _$_, _∵_, _≡_, _⊛_, _∷_, addr, agg, alloc0, alloc1, and-then, assigns, atRet, await, cellAt, cited, concludes, done, drop, emp, ends-at, ent, enter, erased, fat, feqL, fjoin, fld, flent, flft, fmOf, frame, from, fsplit, fst∗, ftrue, fullShare, given, givenOf, goes-slice, hop, id⊢, imm, init, join, land, later, learn, leave, length, lft-end, lft-new, load, look, look-in, mem, move, mut, mut-slice-tells, named, no-more, nothing, of-opd, onEntry, only, owned, owns, params1, pass0, pass1, pick, places, plain, pointee, prop, qed, raw, refl, returns, runs, says, shr-slice-tells, slice-vals, sliceTy, sliceVal, some, split, stack, stay-slice, stop, sub, suffices, tables, tablesOf, tripleOf, tyInt, tyRef, u8, use1, use3, via, vptr, w8, walkOf, walked, whole, yes, ‵, ℕ, ⋆}
 use Rattle.walks.specs.Lends.{on-again, off-again, learns}
 use Rattle.walks.specs.LocalValue.{lends-value, value-back}
 use Rattle.answer.specs.declared.Answer.{Answer}

@@ -4,7 +4,7 @@ use denote.Struct.Laws as LL
 use denote.Enum.Laws as LE
 use denote.Triple.Walked.{stay-dropped, goes-dropped}
 use mathlib.Core.Option.{Option, none, some as that}
-use Rattle.walks.specs.Walk.{ !, AllGo, Atoms, Calls, Contract, Env, Fml, FmC, Fun, GName, Given, Heap, Is, Item, Lft, List, Local, Loops, Memory, MutSlice, RefT, Room, Routine, SProp, Share, ShrSlice, Sq, Stays, T, Triple, Ty, URA, Val, Walks, WpFn, [], _$_, _++_, _<_, _^_, _∵_, _≡_, _⊛_, _∷_, addr, agg, alloc0, alloc1, and-then, answers, ap, assigns, atRet, await, branches, cited, concludes, done, drop, emp, ends-at, ensured, ent, enter, erased, exE, exec, fact, fails, fat, feqL, first, fjoin, fld, flft, fmOf, frame, from, fsplit, fst∗, ftrue, fullShare, givenOf, goes-slice, heard, holds, hop, id⊢, imm, init, join, land, lasts, later, leave, length, lft-end, lft-new, load, look, look-in, move, mut, mut-slice-tells, named, no-more, not, nothing, number, of-opd, onEntry, only, owned, owns, params1, pass0, pass1, pick, places, plain, pointee, prop, qed, raw, refl, returns, returns-within, rewrite, runs, says, sem, skips, slice-vals, sliceTy, sliceVal, snd∗, some, split, stack, stay-slice, stop, sub, subst, suffices, tables, tablesOf, tripleOf, tyBool, tyInt, tyRef, u8, uint-tells, uint-vals, use1, use2, use3, usize, vbool, via, vint, w32, w64, w8, walkOf, walked, whole, yes, ‵, ℕ, ⋆}
+use Rattle.walks.specs.Walk.{ !, AllGo, Atoms, Calls, Contract, Env, Fml, FmC, Fun, GName, Given, Heap, Is, Item, Lft, List, Local, Loops, Memory, MutSlice, RefT, Room, Routine, SProp, Share, ShrSlice, Sq, Stays, T, Triple, Ty, URA, Val, Walks, WpFn, [], _$_, _++_, _<_, _^_, _∵_, _≡_, _⊛_, _∷_, addr, agg, alloc0, alloc1, and-then, assigns, atRet, branches, cited, concludes, done, drop, emp, ends-at, ent, enter, erased, exec, fails, feqL, first, fjoin, fld, flft, fmOf, frame, from, fsplit, fst∗, ftrue, fullShare, givenOf, goes-slice, holds, hop, id⊢, imm, init, join, land, leave, length, load, look, look-in, move, mut, mut-slice-tells, named, no-more, nothing, number, of-opd, onEntry, only, owned, owns, params1, pass0, pass1, places, plain, pointee, prop, qed, raw, refl, returns, returns-within, runs, says, skips, slice-vals, sliceTy, sliceVal, some, split, stack, stay-slice, stop, sub, suffices, tables, tablesOf, tripleOf, tyBool, tyInt, tyRef, u8, uint-tells, uint-vals, use2, usize, via, vint, w32, w64, w8, walkOf, walked, whole, yes, ‵, ℕ, ⋆}
 use Rattle.walks.specs.Lends.{on-shared, off-shared, on-again, off-again, token, learns}
 use Rattle.nib.specs.Counters.{heldFor, left, pair, recorded}
 use Rattle.nib.specs.declared.counters.CounterRow.{CounterRow}

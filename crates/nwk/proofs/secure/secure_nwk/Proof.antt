@@ -10,7 +10,7 @@ use mathlib.Core.Bool.{true}
 use mathlib.Core.Option.{Option, none, some as that}
 use types.Run.{un}
 use lib.ListN.{drop as past}
-use Rattle.walks.specs.Walk.{!, AllGo, Atoms, Calls, Contract, Env, Fml, FmC, Fun, GName, Given, Heap, Is, Item, Lft, List, Local, Loops, Memory, MutRef, MutSlice, RefT, Room, Routine, SProp, Share, ShrSlice, Sq, Stays, Triple, Ty, URA, Val, Walks, WpFn, [], _$_, _+_, _++_, _<_, _^_, _∵_, _≡_, _≤_, _⊛_, _∷_, addr, agg, alloc0, alloc1, and-then, assigns, atRet, branches, cited, closes, concludes, done, drop, emp, ends-at, ent, enter, erased, exec, fails, feqI, feqL, first, fjoin, fjoin3, fld, flft, fmOf, frame, from, fsplit, fsplit3, fst∗, ftrue, fullShare, givenOf, goes-ref, goes-slice, holds-not, hop, id⊢, imm, init, join, land, leave, length, load, look, look-in, move, mut, mut-slice-tells, mut-tells, named, no-more, nothing, nothing-lawful, number, of-opd, onEntry, only, opens, owned, owns, params1, pass0, pass1, peeks, places, plain, pointee, prop, ptr-vals, qed, raw, refl, returns, returns-within, runs, says, shows, shr-slice-copy, shr-slice-tells, skips, slice-vals, sliceTy, sliceVal, spelt, split, stack, stay-ref, stay-slice, stop, sub, suffices, tables, tablesOf, tripleOf, tyBool, tyInt, tyRef, tyUnit, u8, use1, use2, use3, via, vint, vptr, w32, w64, w8, walkOf, walked, whole, yes, ‵, ℕ, ⋆}
+use Rattle.walks.specs.Walk.{ !, AllGo, Atoms, Calls, Contract, Env, Fml, FmC, Fun, GName, Given, Heap, Is, Item, Lft, List, Local, Loops, Memory, MutRef, MutSlice, RefT, Room, Routine, SProp, Share, ShrSlice, Sq, Stays, Triple, Ty, URA, Val, Walks, WpFn, [], _$_, _+_, _++_, _<_, _^_, _∵_, _≡_, _≤_, _⊛_, _∷_, addr, agg, alloc0, alloc1, and-then, assigns, atRet, branches, cited, closes, concludes, done, drop, emp, ends-at, ent, enter, erased, exec, fails, feqI, feqL, first, fjoin, fjoin3, fld, flft, fmOf, frame, from, fsplit, fsplit3, fst∗, ftrue, fullShare, givenOf, goes-ref, goes-slice, holds-not, hop, id⊢, imm, init, join, land, leave, length, load, look, look-in, move, mut, mut-slice-tells, mut-tells, named, no-more, nothing, nothing-lawful, number, of-opd, onEntry, only, opens, owned, owns, params1, pass0, pass1, peeks, places, plain, pointee, prop, ptr-vals, qed, raw, refl, returns, returns-within, runs, says, shows, shr-slice-copy, shr-slice-tells, skips, slice-vals, sliceTy, sliceVal, spelt, split, stack, stay-ref, stay-slice, stop, sub, suffices, tables, tablesOf, tripleOf, tyBool, tyInt, tyRef, tyUnit, u8, use1, use2, use3, via, vint, vptr, w32, w64, w8, walkOf, walked, whole, yes, ‵, ℕ, ⋆}
 use Rattle.walks.specs.Lends.{on-again, off-again, on-ref, off-ref, token, learns}
 use Rattle.answer.specs.declared.Answer.{Answer}
 use Rattle.answer.proofs.Answer as A′

@@ -7,18 +7,17 @@ use Rattle.reader.proofs.Steps.{frame-opened}
 use Rattle.reader.proofs.reading.open_copy.Statement.{statement}
 use Rattle.reader.proofs.reading.open_copy.Tie as tie
 
-slice-aggregate-open-nwk-4 : tie.Need-slice-aggregate-open-nwk-4
-slice-aggregate-open-nwk-4 c =
-    let f = c .before .before .before .before .before .before .before .before .before .before .before .before .args .body .now in
-    sym (ap length (copied f _ _ (c .before .before .before .before .before .before .before .before .before .copy .ensures .1)))
+slice-aggregate-open-with : tie.Need-slice-aggregate-open-with
+slice-aggregate-open-with c =
+    let made = c .before .before .before .before in
+    sym (ap length (copied (made .before .before .before .args .body .now) _ _ (made .copy .ensures .1)))
 
 returns : tie.Need-returns
 returns c =
-    let opened = c .before .before .before .before .before .before in
-    let made = opened .before .before .before .before .before .before .before .before .before .before in
+    let opened = c .before .before .before .before in
+    let made = opened .before .before .before .before .before in
     let a = made .before .before .before .args in
-    frame-opened (a .reader) (a .body .now) _ _ _ _ _ _ _ _ (copied (a .body .now) _ _ (made .copy .ensures .1)) (c .before .wrapping-add-u64 .ensures) (c .told-of .ensures)
-    (opened .open-nwk .ensures)
+    frame-opened (a .reader) (a .body .now) _ _ _ _ _ (copied (a .body .now) _ _ (made .copy .ensures .1)) (c .before .wrapping-add-u64 .ensures) (c .told-of .ensures) (opened .open-with .ensures)
 
 pub open-copy-spec : {M : Type 1} → statement M
 open-copy-spec =
@@ -27,10 +26,7 @@ open-copy-spec =
     (λ c. search needs)
     (λ c κs. search needs)
     (λ c. search needs)
-    (λ c. search needs)
-    (λ c. search needs)
-    (λ c. search needs)
-    slice-aggregate-open-nwk-4
+    slice-aggregate-open-with
     (λ c κs. search needs)
     (λ c κs. search needs)
     (λ c κs. search needs)
