@@ -85,19 +85,12 @@ fn gateway(active: u8, key_number: u8) -> Nwk {
 fn opened(name: &[u8], nwk: Nwk, used: usize, held: u32, frame: &mut [u8]) {
     let keys = nwk.keys;
     let row = keys.rows[0];
-<<<<<<< HEAD
-    let mut numbers = [row.number; 4];
-    let mut senders = [LOGGER; 4];
-    let mut counters = [held; 4];
-    let after = nwk::open_nwk(nwk, &mut numbers, &mut senders, &mut counters, used, frame);
-=======
     let heard = CounterRow {
         number: row.number,
-        sender: 0x0011223344556677,
+        sender: LOGGER,
         counter: held,
     };
     let after = nwk::open_with(nwk, [heard; 64], used, frame);
->>>>>>> d5957e9c8ba67798cbd4b9d84108cd9fb9b5807b
     let answer = after.answer;
     let rows = after.rows;
     let told = answer::told_of(answer);
