@@ -22,9 +22,10 @@ use Rattle.nib.specs.declared.outgoing.Taken.{Taken}
 use Rattle.nib.specs.Keys.{keyFound}
 use Rattle.nib.specs.Sending.{AfterTaking, mayUse, taken, took}
 use Rattle.protection.specs.Protection.{level}
+use Rattle.nwk.specs.declared.bridge.SecuredWith.{SecuredWith}
 use Rattle.nwk.specs.declared.ready.Ready.{Ready}
 use Rattle.nwk.specs.declared.state.Nwk.{Nwk}
-use Rattle.nwk.specs.Ready.{notReady, readyFramed, readyFor, secured}
+use Rattle.nwk.specs.Ready.{notReady, readyFramed, readyFor, secured, securedWith}
 use Rattle.nwk.specs.SecureNwk.{Secured, notSecured, nwkAdded, nwkOnAir, nwkDone, nwkFramed, secureNwk}
 
 -- ---- what a securing that is done has checked
@@ -158,8 +159,13 @@ module _ (s : Nwk) (o : Outgoing) (plain out : List ℕ) where
     pub secured-kept : ready .go ≡ false → secured (ready .answer) out o ≡ secureNwk s o plain out
     secured-kept t = rw (← by-asked, ← is-ready, t)
 
--- two results that the promise of `secure_nwk` allows are equal
+-- two results that the promise of `secure_nwk` allows are equal, and two that that of `secure_with` allows
 pub secured-once : (a b : Answer) (x y : List ℕ) (o q : Outgoing) (promised : Secured) → secured a x o ≡ promised → secured b y q ≡ promised → (a ≡ b) × (x ≡ y) × (o ≡ q)
 secured-once a b x y o q promised e f =
     let p : secured a x o ≡ secured b y q = e ∙ sym f in
     (ap (λ (z : Secured). z .answer) p, ap (λ (z : Secured). z .out) p, ap (λ (z : Secured). z .outgoing) p)
+
+pub secured-with-once : (r q : SecuredWith) (x y : List ℕ) (promised : Secured) → securedWith r x ≡ promised → securedWith q y ≡ promised → (r ≡ q) × (x ≡ y)
+secured-with-once r q x y promised e f =
+    let p : securedWith r x ≡ securedWith q y = e ∙ sym f in
+    ((λ i. record { answer = (p i) .answer; outgoing = (p i) .outgoing }), ap (λ (z : Secured). z .out) p)

@@ -9,7 +9,7 @@ use frame::Control;
 use frame::KeyIdentifier;
 
 // The length of the auxiliary header that NWK sends, with sender and key number.
-const AUXILIARY: usize = 14;
+pub const AUXILIARY: usize = 14;
 
 // Lays header, auxiliary header and payload into `out`, all still plain.
 fn lay(nwk: Nwk, counter: u32, plain: &[u8], out: &mut [u8], header: usize)

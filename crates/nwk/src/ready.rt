@@ -5,6 +5,7 @@ ghost use Prim.Native.Nat.{_≤_};
 ghost use lib.ListN.{length};
 ghost use Rattle.header.specs.declared.network.NwkRead.the-variants.{Whole};
 ghost use Rattle.nwk.specs.Ready.{readyFramed, readyFor};
+use crate::finish::AUXILIARY;
 use crate::state::Nwk;
 use answer::Answer;
 use answer::Refusal;
@@ -17,8 +18,8 @@ const LEVEL: u8 = 5;
 // The most bytes that a plain frame may have.
 const LARGEST: usize = 1006;
 
-// What securing adds: an auxiliary header with sender and key number, 14 bytes, and a tag of 4.
-const ADDED: usize = 14 + 4;
+// What securing adds: the auxiliary header, and a tag of 4.
+const ADDED: usize = AUXILIARY + 4;
 
 // Whether the frame goes out, the answer, and the length of its header (0 where it does not go out).
 pub struct Ready {
