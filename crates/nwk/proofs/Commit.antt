@@ -322,15 +322,3 @@ module _ (s : Nwk) (rows : List CounterRow) (used : ℕ) (b : List ℕ) where
       opened-left t =
           (λ i. record { answer = (verdict-is i) .answer; frame = frame-is i; rows = rows; used = used; active = (verdict-is i) .active })
           ∙ left-at asked refl (opens-is ∙ t) ∙ sym open-is
-
--- two results that the promise of `open_nwk` allows are equal, and two that that of `open_with` allows
-pub opened-once : (r q : OpenedNwk) (rs qs : List CounterRow) (x y : List ℕ) (promised : Opened) → opened r rs x ≡ promised → opened q qs y ≡ promised
-    → (r ≡ q) × (rs ≡ qs) × (x ≡ y)
-opened-once r q rs qs x y promised e f =
-    let p : opened r rs x ≡ opened q qs y = e ∙ sym f in
-    ((λ i. record { answer = (p i) .answer; used = (p i) .used; active = (p i) .active }), ap (λ (z : Opened). z .rows) p, ap (λ (z : Opened). z .frame) p)
-
-pub opened-with-once : (r q : OpenedWith) (x y : List ℕ) (promised : Opened) → openedWith r x ≡ promised → openedWith q y ≡ promised → (r ≡ q) × (x ≡ y)
-opened-with-once r q x y promised e f =
-    let p : openedWith r x ≡ openedWith q y = e ∙ sym f in
-    ((λ i. record { rows = (p i) .rows; used = (p i) .used; active = (p i) .active; answer = (p i) .answer }), ap (λ (z : Opened). z .frame) p)

@@ -1,3 +1,4 @@
+pub mod Values
 pub mod Commit
 pub mod ReadyLaws
 pub mod SecuringLaws

@@ -158,14 +158,3 @@ module _ (s : Nwk) (o : Outgoing) (plain out : List ℕ) where
 
     pub secured-kept : ready .go ≡ false → secured (ready .answer) out o ≡ secureNwk s o plain out
     secured-kept t = rw (← by-asked, ← is-ready, t)
-
--- two results that the promise of `secure_nwk` allows are equal, and two that that of `secure_with` allows
-pub secured-once : (a b : Answer) (x y : List ℕ) (o q : Outgoing) (promised : Secured) → secured a x o ≡ promised → secured b y q ≡ promised → (a ≡ b) × (x ≡ y) × (o ≡ q)
-secured-once a b x y o q promised e f =
-    let p : secured a x o ≡ secured b y q = e ∙ sym f in
-    (ap (λ (z : Secured). z .answer) p, ap (λ (z : Secured). z .out) p, ap (λ (z : Secured). z .outgoing) p)
-
-pub secured-with-once : (r q : SecuredWith) (x y : List ℕ) (promised : Secured) → securedWith r x ≡ promised → securedWith q y ≡ promised → (r ≡ q) × (x ≡ y)
-secured-with-once r q x y promised e f =
-    let p : securedWith r x ≡ securedWith q y = e ∙ sym f in
-    ((λ i. record { answer = (p i) .answer; outgoing = (p i) .outgoing }), ap (λ (z : Secured). z .out) p)

@@ -23,6 +23,7 @@ use Rattle.nwk.proofs.bridge.OpenedWith as S
 use Rattle.nwk.proofs.bridge.OpenedWith.Laws as S′
 use Rattle.nwk.proofs.open.OpenedNwk as O
 use Rattle.nwk.proofs.open.OpenedNwk.Laws as O′
+use Rattle.nwk.proofs.Values.{nv, ov, av as answer-val}
 use Rattle.nwk.proofs.state.Nwk as N
 use Rattle.nwk.proofs.state.Nwk.Laws as N′
 use Rattle.nwk.proofs.open.open_nwk as open-nwk
@@ -49,18 +50,9 @@ module _ {M : Type 1} (𝓤 : URA M) (H : Heap 𝓤) (A : Atoms 𝓤) (mem : Mem
   abbrev Open : Contract 𝓤
   Open = tripleOf 𝓤 H A open-nwk.signature (open-nwk.spec 𝓤 H A mem run)
 
--- the one machine value of each
-abbrev nv : Nwk → Val
-nv s = only (LL.vals N.the-type N′.the-laws s)
-
+-- the array's one machine value
 abbrev av : List CounterRow → Val
 av l = only (array-vals rowVals l)
-
-abbrev answer-val : Answer → Val
-answer-val a = only (LE.vals A′.the-type A″.the-laws a)
-
-abbrev ov : OpenedNwk → Val
-ov r = only (LL.vals O.the-type O′.the-laws r)
 
 -- ---- an array of a struct as a field of another struct: its elements stand there as the tuples of their fields, with the same machine values
 abbrev F : Field

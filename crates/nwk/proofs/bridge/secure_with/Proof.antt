@@ -20,6 +20,7 @@ use Rattle.nwk.specs.Ready.{secured, securedWith}
 use Rattle.nwk.specs.SecureNwk.{secureNwk}
 use Rattle.nwk.proofs.bridge.SecuredWith as S
 use Rattle.nwk.proofs.bridge.SecuredWith.Laws as S′
+use Rattle.nwk.proofs.Values.{nv, hv, av}
 use Rattle.nwk.proofs.state.Nwk as N
 use Rattle.nwk.proofs.state.Nwk.Laws as N′
 use Rattle.nwk.proofs.secure.secure_nwk as secure
@@ -39,16 +40,7 @@ module _ {M : Type 1} (𝓤 : URA M) (H : Heap 𝓤) (A : Atoms 𝓤) (at-mem : 
   abbrev Secure : Contract 𝓤
   Secure = tripleOf 𝓤 H A secure.signature (secure.spec 𝓤 H A at-mem run)
 
--- the one machine value of each
-abbrev nv : Nwk → Val
-nv s = only (LL.vals N.the-type N′.the-laws s)
-
-abbrev hv : Outgoing → Val
-hv h = only (LL.vals T.the-type T′.the-laws h)
-
-abbrev av : Answer → Val
-av a = only (LE.vals A′.the-type A″.the-laws a)
-
+-- the result's one machine value
 abbrev sv : SecuredWith → Val
 sv r = only (LL.vals S.the-type S′.the-laws r)
 

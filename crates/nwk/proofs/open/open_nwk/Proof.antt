@@ -34,6 +34,7 @@ use Rattle.nwk.proofs.judge.Verdict as J
 use Rattle.nwk.proofs.judge.Verdict.Laws as J′
 use Rattle.nwk.proofs.open.OpenedNwk as O
 use Rattle.nwk.proofs.open.OpenedNwk.Laws as O′
+use Rattle.nwk.proofs.Values.{nv, ov}
 use Rattle.nwk.proofs.state.Nwk as N
 use Rattle.nwk.proofs.state.Nwk.Laws as N′
 use Rattle.nwk.proofs.judge.caller_of as caller-of
@@ -72,9 +73,6 @@ module _ {M : Type 1} (𝓤 : URA M) (H : Heap 𝓤) (A : Atoms 𝓤) (mem : Mem
   Record = tripleOf 𝓤 H A record′.signature (record′.spec 𝓤 H A mem run)
 
 -- the one machine value of each
-abbrev nv : Nwk → Val
-nv s = only (LL.vals N.the-type N′.the-laws s)
-
 abbrev wv : Who → Val
 wv w = only (LE.vals P.the-type P′.the-laws w)
 
@@ -89,9 +87,6 @@ jv j = only (LL.vals J.the-type J′.the-laws j)
 
 abbrev rv : Recorded → Val
 rv r = only (LL.vals R.the-type R′.the-laws r)
-
-abbrev ov : OpenedNwk → Val
-ov r = only (LL.vals O.the-type O′.the-laws r)
 
 abbrev word : Ty
 word = tyInt w64

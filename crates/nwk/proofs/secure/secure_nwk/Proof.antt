@@ -29,6 +29,7 @@ use Rattle.nwk.specs.SecureNwk.{nwkAdded, nwkOnAir, secureNwk}
 use Rattle.nwk.proofs.ReadyLaws.{goes, secured-sent, secured-kept}
 use Rattle.nwk.proofs.ready.Ready as R
 use Rattle.nwk.proofs.ready.Ready.Laws as R′
+use Rattle.nwk.proofs.Values.{nv, hv, av}
 use Rattle.nwk.proofs.state.Nwk as N
 use Rattle.nwk.proofs.state.Nwk.Laws as N′
 use Rattle.nwk.proofs.ready.ready_for as ready-for
@@ -61,20 +62,11 @@ module _ {M : Type 1} (𝓤 : URA M) (H : Heap 𝓤) (A : Atoms 𝓤) (mem : Mem
   Finish = tripleOf 𝓤 H A finish.signature (finish.spec 𝓤 H A mem run)
 
 -- the one machine value of each
-abbrev nv : Nwk → Val
-nv s = only (LL.vals N.the-type N′.the-laws s)
-
-abbrev hv : Outgoing → Val
-hv h = only (LL.vals T.the-type T′.the-laws h)
-
 abbrev rv : Ready → Val
 rv r = only (LL.vals R.the-type R′.the-laws r)
 
 abbrev kv : Taken → Val
 kv k = only (LL.vals K.the-type K′.the-laws k)
-
-abbrev av : Answer → Val
-av a = only (LE.vals A′.the-type A″.the-laws a)
 
 abbrev word : Ty
 word = tyInt w64
