@@ -34,13 +34,11 @@ use Rattle.protection.proofs.ClaimLaws.{Sized, nwk-claim}
 use Rattle.protection.specs.Heard.{Heard, refused, equals, below}
 use Rattle.protection.specs.Protection.{tagSize, payloadSize, vouches, openedOctets}
 use Rattle.protection.specs.declared.claims.Who.the-variants.{Told, Claims}
-use Rattle.nwk.specs.declared.bridge.OpenedWith.{OpenedWith}
 use Rattle.nwk.specs.declared.judge.Caller.{Caller}
 use Rattle.nwk.specs.declared.judge.Verdict.{Verdict}
-use Rattle.nwk.specs.declared.open.OpenedNwk.{OpenedNwk}
 use Rattle.nwk.specs.declared.state.Nwk.{Nwk}
 use Rattle.nwk.specs.OpenNwk.{Opened, unchanged, activeAfter, nwkJudged, nwkPlaced, nwkUnfit, openNwk}
-use Rattle.nwk.specs.Halves.{freshness, heldOf, heardFrom, judgedFresh, judgedHeard, nwkAsked, callerOf, isOpened, heardFrame, verdictOf, opened, openedWith}
+use Rattle.nwk.specs.Halves.{freshness, heldOf, heardFrom, judgedFresh, judgedHeard, nwkAsked, callerOf, isOpened, heardFrame, verdictOf, opened}
 
 -- ---- the judgement
 

@@ -9,7 +9,6 @@ use lib.Dec.{eqb, leb, ltb}
 use lib.ListN.{length, drop}
 use borrow.Author.Tests.{ltb-false, leb-true, not-false}
 use Rattle.laws.specs.Numbers.{bit}
-use Rattle.answer.specs.declared.Answer.{Answer}
 use Rattle.answer.specs.declared.Answer.the-variants.{Done}
 use Rattle.answer.specs.declared.Refusal.{Refusal}
 use Rattle.answer.specs.declared.Refusal.the-variants.{Unsupported, NoNetworkKey, CounterExhausted, NoRoom}
@@ -22,10 +21,9 @@ use Rattle.nib.specs.declared.outgoing.Taken.{Taken}
 use Rattle.nib.specs.Keys.{keyFound}
 use Rattle.nib.specs.Sending.{AfterTaking, mayUse, taken, took}
 use Rattle.protection.specs.Protection.{level}
-use Rattle.nwk.specs.declared.bridge.SecuredWith.{SecuredWith}
 use Rattle.nwk.specs.declared.ready.Ready.{Ready}
 use Rattle.nwk.specs.declared.state.Nwk.{Nwk}
-use Rattle.nwk.specs.Ready.{notReady, readyFramed, readyFor, secured, securedWith}
+use Rattle.nwk.specs.Ready.{notReady, readyFramed, readyFor, secured}
 use Rattle.nwk.specs.SecureNwk.{Secured, notSecured, nwkAdded, nwkOnAir, nwkDone, nwkFramed, secureNwk}
 
 -- ---- what a securing that is done has checked
