@@ -11,3 +11,4 @@ pub mod LocalArray
 pub mod Lends
 pub mod Walk
 pub mod LocalValue
+pub mod ArrayField
