@@ -8,7 +8,6 @@ use denote.Laws.{Is}
 use denote.Struct.Laws as LL
 use denote.Enum.Laws as LE
 use Rattle.walks.specs.ArrayField.{array-in, vals-same}
-use Rattle.answer.specs.declared.Outcome.{Outcome}
 use Rattle.answer.proofs.Outcome as O
 use Rattle.answer.proofs.Outcome.Laws as O′
 use Rattle.nib.specs.declared.counters.CounterRow.{CounterRow}

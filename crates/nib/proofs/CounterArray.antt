@@ -1,5 +1,5 @@
 -- 64 counter rows by value, as an array: its type, its machine value, and that it fits where it is lent as a slice. Assumes nothing.
-use mathlib.Core.List.{List, [], _∷_}
+use mathlib.Core.List.{List}
 use mir.Syntax.{Ty, tyArray}
 use mir.Val.{Val, WT, hasTy}
 use lib.Dec.{T, lit<}

@@ -3,7 +3,7 @@
 use denote.Struct.Laws as LL
 use denote.Triple.Walked.{stay-dropped, goes-dropped}
 use mathlib.Core.Option.{Option, none, some as that}
-use Rattle.walks.specs.Walk.{ !, AllGo, Atoms, Calls, Contract, Env, Fml, FmC, Fun, GName, Given, Heap, Is, List, Local, Loops, Memory, MutRef, RefT, Routine, SProp, Sq, Stays, Triple, URA, Val, Walks, WpFn, [], _$_, _∵_, _≡_, _∷_, addr, agg, alloc0, alloc1, and-then, assigns, atRet, cited, concludes, done, drop, emp, ends-at, ent, enter, erased, fjoin, fld, flft, fmOf, frame, from, fsplit, fst∗, ftrue, fullShare, givenOf, id⊢, init, join, land, learns, leave, load, look, look-in, move, mut, named, no-more, nothing, of-opd, onEntry, only, owned, owns, params1, pass0, pass1, places, plain, pointee, prop, qed, raw, refl, returns, runs, says, stack, stop, sub, suffices, tables, tablesOf, token, tripleOf, tyRef, use2, via, vptr, walkOf, walked, whole, yes, ‵, ℕ, ⋆}
+use Rattle.walks.specs.Walk.{ !, AllGo, Atoms, Calls, Contract, Env, Fml, FmC, Fun, GName, Given, Heap, Is, List, Local, Loops, Memory, MutRef, RefT, Routine, SProp, Sq, Stays, Triple, URA, Val, Walks, WpFn, [], _$_, _∵_, _≡_, _∷_, addr, agg, alloc0, alloc1, and-then, assigns, atRet, cited, concludes, done, drop, emp, ends-at, ent, enter, erased, fjoin, fld, flft, fmOf, frame, from, fsplit, fst∗, ftrue, fullShare, givenOf, id⊢, init, join, land, learns, leave, load, look, look-in, move, mut, named, no-more, nothing, of-opd, onEntry, owned, owns, params1, pass0, pass1, places, plain, pointee, prop, qed, raw, refl, returns, runs, says, stack, stop, sub, suffices, tables, tablesOf, token, tripleOf, tyRef, use2, via, vptr, walkOf, walked, whole, yes, ‵, ℕ, ⋆}
 use Rattle.walks.specs.LocalValue.{on-value, off-value}
 use Rattle.nib.specs.Sending.{took, taken}
 use Rattle.nib.specs.declared.outgoing.Outgoing.{Outgoing}
