@@ -36,7 +36,7 @@ use denote.Lend.{Held, Lent, LentShrs, lends-slice, lends-shr-slice, slice-back}
 use denote.Index.{row, whole-in, whole-out}
 
 -- what the lender of a `&κ [T]` of the elements ys at l keeps
-abbrev pub All : (R : RattleType) → List (R .Denot) → ℕ → Fml
+abbrev All : (R : RattleType) → List (R .Denot) → ℕ → Fml
 All R ys l = arr-parts (shares R) (length ys) .part fullShare ys l 0
 
 module _ (R : RattleType) (one : Single (R .mir)) (n : ℕ) {M : Type 1} (𝓤 : URA M) (H : Heap 𝓤) (A : Atoms 𝓤) (W : Given 𝓤 H A)
@@ -86,59 +86,58 @@ module _ (R : RattleType) (one : Single (R .mir)) (n : ℕ) {M : Type 1} (𝓤 :
       qed W (‵ (fdead κ) ∷ ‵ (flent κ (All R ys l)) ∷ []) ∵ updating ! $ lent-back ! tt $ fsplit ! $ drop ! $ at-once ! $ by ! (gathered ys l long)
 
 -- ---- the steps. The slice is spelled with the array's n, as the code has it
-module _ (T : Declared) (L : LL.Laws T) (n l : ℕ) where
-  abbrev Rows : RattleType
-  Rows = Array (struct T) n
+abbrev Rows : Declared → ℕ → RattleType
+Rows T n = Array (struct T) n
 
-  abbrev τ : Ty
-  τ = tyArray (lone (struct T .mir)) n
+abbrev τ : Declared → ℕ → Ty
+τ T n = tyArray (lone (struct T .mir)) n
 
-  abbrev v : List (T .D) → Val
-  v zs = only (array-vals (LL.vals T L) zs)
+abbrev v : (T : Declared) → LL.Laws T → List (T .D) → Val
+v T L zs = only (array-vals (LL.vals T L) zs)
 
-  abbrev Cell : List (T .D) → Fml
-  Cell zs = fat fullShare τ l 0 (v zs)
+abbrev Cell : (T : Declared) → LL.Laws T → ℕ → ℕ → List (T .D) → Fml
+Cell T L n l zs = fat fullShare (τ T n) l 0 (v T L zs)
 
-  abbrev Raw : List (T .D) → Fml
-  Raw zs = cellAt fullShare (τ ∷ []) (v zs ∷ []) l 0
+abbrev Raw : (T : Declared) → LL.Laws T → ℕ → ℕ → List (T .D) → Fml
+Raw T L n l zs = cellAt fullShare (τ T n ∷ []) (v T L zs ∷ []) l 0
 
-  module _ (ys : List (T .D)) where
-    abbrev the : GName → RefT (List (T .D))
-    the δ = record { ptr = (l, 0); name = δ; now = ys }
+module _ (T : Declared) (l : ℕ) (ys : List (T .D)) where
+  abbrev the : GName → RefT (List (T .D))
+  the δ = record { ptr = (l, 0); name = δ; now = ys }
 
-    abbrev Mut : Lifetime → ℕ → GName → ℕ → Fml
-    Mut ℓ ν δ m = MutSlice ℓ (ν ∷ []) (struct T) .own (the δ) (sliceVal (l, 0) m ∷ [])
+  abbrev Mut : Lifetime → ℕ → GName → ℕ → Fml
+  Mut ℓ ν δ m = MutSlice ℓ (ν ∷ []) (struct T) .own (the δ) (sliceVal (l, 0) m ∷ [])
 
-    abbrev Shr : Lifetime → ℕ → GName → ℕ → Fml
-    Shr ℓ ν δ m = ShrSlice ℓ (ν ∷ []) (struct T) .own (the δ) (sliceVal (l, 0) m ∷ [])
+  abbrev Shr : Lifetime → ℕ → GName → ℕ → Fml
+  Shr ℓ ν δ m = ShrSlice ℓ (ν ∷ []) (struct T) .own (the δ) (sliceVal (l, 0) m ∷ [])
 
-    abbrev Lends : ℕ → GName → Fml
-    Lends ν δ = flent (ν ∷ []) (Held (struct T) (length ys) l 0 δ)
+  abbrev Lends : ℕ → GName → Fml
+  Lends ν δ = flent (ν ∷ []) (Held (struct T) (length ys) l 0 δ)
 
-    abbrev Shares : ℕ → Fml
-    Shares ν = flent (ν ∷ []) (All (struct T) ys l)
+  abbrev Shares : ℕ → Fml
+  Shares ν = flent (ν ∷ []) (All (struct T) ys l)
 
 module _ {M : Type 1} {𝓤 : URA M} {H : Heap 𝓤} {A : Atoms 𝓤} {K : Type 0} {W : Given 𝓤 H A} {Γ : List (Item 𝓤)} {C : Calls 𝓤 H} {Λ : Loops 𝓤 H} {E : Env 𝓤 H} {body : Body} {p : Post 𝓤 H}
-    (t : K) (T : Declared) (L : LL.Laws T) (pl : Plains (fields T)) (n l : ℕ) (ys : List (T .D)) (is : Is (Rows T L n l) ys (v T L n l ys ∷ [])) where
-  pub on-local : (ℓ : Lifetime) → Room (struct T) n → ((ν : ℕ) (δ : GName) → Seq K W (‵ (flft (ν ∷ []) fullShare) ∷ ‵ (Mut T L n l ys ℓ ν δ n) ∷ ‵ (Lends T L n l ys ν δ) ∷ Γ) (runs C Λ E body p)) → Seq K W (‵ (Cell T L n l ys) ∷ Γ) (runs C Λ E body p)
-  on-local ℓ room k = lft-new t tt (λ ν. move t (1 ∷ []) $ use1 W (‵ (Raw T L n l ys)) (W .laws .at-raw fullShare (τ T L n l) l 0 (v T L n l ys)) $
-      use1 W (later (some (λ (δ : GName). ‵ (Mut T L n l ys ℓ ν δ (length ys)) ⊛ ‵ (Lends T L n l ys ν δ))))
+    (t : K) (T : Declared) (L : LL.Laws T) (pl : Plains (fields T)) (n l : ℕ) (ys : List (T .D)) (is : Is (Rows T n) ys (v T L ys ∷ [])) where
+  pub on-local : (ℓ : Lifetime) → Room (struct T) n → ((ν : ℕ) (δ : GName) → Seq K W (‵ (flft (ν ∷ []) fullShare) ∷ ‵ (Mut T l ys ℓ ν δ n) ∷ ‵ (Lends T l ys ν δ) ∷ Γ) (runs C Λ E body p)) → Seq K W (‵ (Cell T L n l ys) ∷ Γ) (runs C Λ E body p)
+  on-local ℓ room k = lft-new t tt (λ ν. move t (1 ∷ []) $ use1 W (‵ (Raw T L n l ys)) (W .laws .at-raw fullShare (τ T n) l 0 (v T L ys)) $
+      use1 W (later (some (λ (δ : GName). ‵ (Mut T l ys ℓ ν δ (length ys)) ⊛ ‵ (Lends T l ys ν δ))))
       (lends-local (struct T) tt n 𝓤 H A W (LL.vals T L) (LL.tells T L) (LL.makes T pl 𝓤 H A) ℓ (ν ∷ []) ys l is (subst (Room (struct T)) (sym (is .1 .0 .1)) room)) $
-      await t tt $ pick t (λ δ. split t $ rewrite t 0 (λ (m : ℕ). ‵ (Mut T L n l ys ℓ ν δ m)) (is .1 .0 .1) refl $ move t (2 ∷ 0 ∷ []) $ k ν δ))
+      await t tt $ pick t (λ δ. split t $ rewrite t 0 (λ (m : ℕ). ‵ (Mut T l ys ℓ ν δ m)) (is .1 .0 .1) refl $ move t (2 ∷ 0 ∷ []) $ k ν δ))
 
-  pub off-local : (ν : ℕ) (δ : GName) (zs : List (T .D)) → length zs ≡ length ys → (Is (Rows T L n l) zs (v T L n l zs ∷ []) → Seq K W (‵ (Cell T L n l zs) ∷ Γ) (runs C Λ E body p))
-      → Seq K W (‵ (flft (ν ∷ []) fullShare) ∷ ‵ (Lends T L n l ys ν δ) ∷ ‵ (finally (struct T) δ zs) ∷ Γ) (runs C Λ E body p)
+  pub off-local : (ν : ℕ) (δ : GName) (zs : List (T .D)) → length zs ≡ length ys → (Is (Rows T n) zs (v T L zs ∷ []) → Seq K W (‵ (Cell T L n l zs) ∷ Γ) (runs C Λ E body p))
+      → Seq K W (‵ (flft (ν ∷ []) fullShare) ∷ ‵ (Lends T l ys ν δ) ∷ ‵ (finally (struct T) δ zs) ∷ Γ) (runs C Λ E body p)
   off-local ν δ zs same k = lft-end t tt $
-      use3 W (later (given (Is (Rows T L n l) zs (v T L n l zs ∷ [])) (‵ (Raw T L n l zs)))) (local-back (struct T) tt n 𝓤 H A W (LL.vals T L) (LL.tells T L) (LL.makes T pl 𝓤 H A) (ν ∷ []) δ ys zs l (is .1 .0 .1) same) $
-      await t tt $ learn t (λ zs-is. use1 W (‵ (Cell T L n l zs)) (W .laws .raw-at fullShare (τ T L n l) l 0 (v T L n l zs)) $ k zs-is)
+      use3 W (later (given (Is (Rows T n) zs (v T L zs ∷ [])) (‵ (Raw T L n l zs)))) (local-back (struct T) tt n 𝓤 H A W (LL.vals T L) (LL.tells T L) (LL.makes T pl 𝓤 H A) (ν ∷ []) δ ys zs l (is .1 .0 .1) same) $
+      await t tt $ learn t (λ zs-is. use1 W (‵ (Cell T L n l zs)) (W .laws .raw-at fullShare (τ T n) l 0 (v T L zs)) $ k zs-is)
 
-  pub on-local-shared : (ℓ : Lifetime) → Room (struct T) n → ((ν : ℕ) (δ : GName) → Seq K W (‵ (flft (ν ∷ []) fullShare) ∷ ‵ (Shr T L n l ys ℓ ν δ n) ∷ ‵ (Shares T L n l ys ν) ∷ Γ) (runs C Λ E body p)) → Seq K W (‵ (Cell T L n l ys) ∷ Γ) (runs C Λ E body p)
-  on-local-shared ℓ room k = lft-new t tt (λ ν. move t (1 ∷ []) $ use1 W (‵ (Raw T L n l ys)) (W .laws .at-raw fullShare (τ T L n l) l 0 (v T L n l ys)) $
-      use1 W (later (some (λ (δ : GName). ‵ (Shr T L n l ys ℓ ν δ (length ys)) ⊛ ‵ (Shares T L n l ys ν))))
+  pub on-local-shared : (ℓ : Lifetime) → Room (struct T) n → ((ν : ℕ) (δ : GName) → Seq K W (‵ (flft (ν ∷ []) fullShare) ∷ ‵ (Shr T l ys ℓ ν δ n) ∷ ‵ (Shares T l ys ν) ∷ Γ) (runs C Λ E body p)) → Seq K W (‵ (Cell T L n l ys) ∷ Γ) (runs C Λ E body p)
+  on-local-shared ℓ room k = lft-new t tt (λ ν. move t (1 ∷ []) $ use1 W (‵ (Raw T L n l ys)) (W .laws .at-raw fullShare (τ T n) l 0 (v T L ys)) $
+      use1 W (later (some (λ (δ : GName). ‵ (Shr T l ys ℓ ν δ (length ys)) ⊛ ‵ (Shares T l ys ν))))
       (lends-local-shared (struct T) tt n 𝓤 H A W (LL.vals T L) (LL.tells T L) (LL.makes T pl 𝓤 H A) ℓ (ν ∷ []) ys l is (subst (Room (struct T)) (sym (is .1 .0 .1)) room)) $
-      await t tt $ pick t (λ δ. split t $ rewrite t 0 (λ (m : ℕ). ‵ (Shr T L n l ys ℓ ν δ m)) (is .1 .0 .1) refl $ move t (2 ∷ 0 ∷ []) $ k ν δ))
+      await t tt $ pick t (λ δ. split t $ rewrite t 0 (λ (m : ℕ). ‵ (Shr T l ys ℓ ν δ m)) (is .1 .0 .1) refl $ move t (2 ∷ 0 ∷ []) $ k ν δ))
 
-  pub off-local-shared : (ν : ℕ) → Step K W (‵ (Cell T L n l ys) ∷ Γ) (runs C Λ E body p) (‵ (flft (ν ∷ []) fullShare) ∷ ‵ (Shares T L n l ys ν) ∷ Γ) (runs C Λ E body p)
+  pub off-local-shared : (ν : ℕ) → Step K W (‵ (Cell T L n l ys) ∷ Γ) (runs C Λ E body p) (‵ (flft (ν ∷ []) fullShare) ∷ ‵ (Shares T l ys ν) ∷ Γ) (runs C Λ E body p)
   off-local-shared ν = step (λ s. lft-end t tt $
-      use2 W (later (given (Is (Rows T L n l) ys (v T L n l ys ∷ [])) (‵ (Raw T L n l ys)))) (local-shared-back (struct T) tt n 𝓤 H A W (LL.vals T L) (LL.tells T L) (LL.makes T pl 𝓤 H A) (ν ∷ []) ys l (is .1 .0 .1)) $
-      await t tt $ learn t (λ _. use1 W (‵ (Cell T L n l ys)) (W .laws .raw-at fullShare (τ T L n l) l 0 (v T L n l ys)) $ s))
+      use2 W (later (given (Is (Rows T n) ys (v T L ys ∷ [])) (‵ (Raw T L n l ys)))) (local-shared-back (struct T) tt n 𝓤 H A W (LL.vals T L) (LL.tells T L) (LL.makes T pl 𝓤 H A) (ν ∷ []) ys l (is .1 .0 .1)) $
+      await t tt $ learn t (λ _. use1 W (‵ (Cell T L n l ys)) (W .laws .raw-at fullShare (τ T n) l 0 (v T L ys)) $ s))

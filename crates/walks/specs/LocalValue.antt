@@ -44,16 +44,16 @@ module _ (R : RattleType) {M : Type 1} (𝓤 : URA M) (H : Heap 𝓤) (A : Atoms
       move ! (1 ∷ []) $ peeks ! R (Is R) (shows 𝓤 H A R) z (vals z) (λ is. drop ! $ at-once ! $ check ! is $ done !))
 
 -- ---- the steps
-module _ (T : Declared) (L : LL.Laws T) (l : ℕ) where
-  abbrev τ : Ty
-  τ = lone (struct T .mir)
+abbrev τ : Declared → Ty
+τ T = lone (struct T .mir)
 
-  abbrev Cell : T .D → Fml
-  Cell h = fat fullShare τ l 0 (LL.val T L h)
+abbrev Cell : (T : Declared) → LL.Laws T → ℕ → T .D → Fml
+Cell T L l h = fat fullShare (τ T) l 0 (LL.val T L h)
 
-  abbrev Raw : T .D → Fml
-  Raw h = cellAt fullShare (τ ∷ []) (LL.vals T L h) l 0
+abbrev Raw : (T : Declared) → LL.Laws T → ℕ → T .D → Fml
+Raw T L l h = cellAt fullShare (τ T ∷ []) (LL.vals T L h) l 0
 
+module _ (T : Declared) (l : ℕ) where
   abbrev Lends : ℕ → GName → Fml
   Lends ν δ = flent (ν ∷ []) (Body (mem (struct T)) l 0 δ)
 
@@ -61,12 +61,12 @@ module _ (T : Declared) (L : LL.Laws T) (l : ℕ) where
   Mut ℓ ν δ h = MutRef ℓ (ν ∷ []) (struct T) .own (record { ptr = (l, 0); name = δ; now = h }) (vptr l 0 ∷ [])
 
 module _ {M : Type 1} {𝓤 : URA M} {H : Heap 𝓤} {A : Atoms 𝓤} {K : Type 0} {W : Given 𝓤 H A} {Γ : List (Item 𝓤)} {C : Calls 𝓤 H} {Λ : Loops 𝓤 H} {E : Env 𝓤 H} {body : Code} {p : Post 𝓤 H} (t : K) (T : Declared) (L : LL.Laws T) (pl : Plains (fields T)) (l : ℕ) where
-  pub on-value : (h : T .D) → Is (struct T) h (LL.vals T L h) → (ℓ : Lifetime) → ((ν : ℕ) (δ : GName) → Seq K W (‵ (flft (ν ∷ []) fullShare) ∷ ‵ (Mut T L l ℓ ν δ h) ∷ ‵ (Lends T L l ν δ) ∷ Γ) (runs C Λ E body p)) → Seq K W (‵ (Cell T L l h) ∷ Γ) (runs C Λ E body p)
-  on-value h is ℓ k = lft-new t tt (λ ν. move t (1 ∷ []) $ use1 W (‵ (Raw T L l h)) (W .laws .at-raw fullShare (τ T L l) l 0 (LL.val T L h)) $
-      use1 W (later (some (λ (δ : GName). ‵ (Mut T L l ℓ ν δ h) ⊛ ‵ (Lends T L l ν δ)))) (lends-value (struct T) 𝓤 H A W (LL.vals T L) (LL.tells T L) (LL.makes T pl 𝓤 H A) ℓ (ν ∷ []) h l is) $
+  pub on-value : (h : T .D) → Is (struct T) h (LL.vals T L h) → (ℓ : Lifetime) → ((ν : ℕ) (δ : GName) → Seq K W (‵ (flft (ν ∷ []) fullShare) ∷ ‵ (Mut T l ℓ ν δ h) ∷ ‵ (Lends T l ν δ) ∷ Γ) (runs C Λ E body p)) → Seq K W (‵ (Cell T L l h) ∷ Γ) (runs C Λ E body p)
+  on-value h is ℓ k = lft-new t tt (λ ν. move t (1 ∷ []) $ use1 W (‵ (Raw T L l h)) (W .laws .at-raw fullShare (τ T) l 0 (LL.val T L h)) $
+      use1 W (later (some (λ (δ : GName). ‵ (Mut T l ℓ ν δ h) ⊛ ‵ (Lends T l ν δ)))) (lends-value (struct T) 𝓤 H A W (LL.vals T L) (LL.tells T L) (LL.makes T pl 𝓤 H A) ℓ (ν ∷ []) h l is) $
       await t tt $ pick t (λ δ. split t $ move t (2 ∷ 0 ∷ []) $ k ν δ))
 
-  pub off-value : (ν : ℕ) (δ : GName) (z : T .D) → (Is (struct T) z (LL.vals T L z) → Seq K W (‵ (Cell T L l z) ∷ Γ) (runs C Λ E body p)) → Seq K W (‵ (flft (ν ∷ []) fullShare) ∷ ‵ (Lends T L l ν δ) ∷ ‵ (fres δ (struct T .coded .code z)) ∷ Γ) (runs C Λ E body p)
+  pub off-value : (ν : ℕ) (δ : GName) (z : T .D) → (Is (struct T) z (LL.vals T L z) → Seq K W (‵ (Cell T L l z) ∷ Γ) (runs C Λ E body p)) → Seq K W (‵ (flft (ν ∷ []) fullShare) ∷ ‵ (Lends T l ν δ) ∷ ‵ (fres δ (struct T .coded .code z)) ∷ Γ) (runs C Λ E body p)
   off-value ν δ z k = lft-end t tt $
       use3 W (later (given (Is (struct T) z (LL.vals T L z)) (‵ (Raw T L l z)))) (value-back (struct T) 𝓤 H A W (LL.vals T L) (LL.tells T L) (LL.makes T pl 𝓤 H A) (ν ∷ []) δ z l) $
-      await t tt $ learn t (λ z-is. use1 W (‵ (Cell T L l z)) (W .laws .raw-at fullShare (τ T L l) l 0 (LL.val T L z)) $ k z-is)
+      await t tt $ learn t (λ z-is. use1 W (‵ (Cell T L l z)) (W .laws .raw-at fullShare (τ T) l 0 (LL.val T L z)) $ k z-is)
