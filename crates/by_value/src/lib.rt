@@ -44,11 +44,11 @@ pub fn forget_with(rows: [CounterRow; 64], used: usize, number: u8) -> RecordedW
     ensures { λ r. ⌜ leftWith r ≡ forgotten rows used number ⌝ }
 {
     let mut lent = rows;
-    let recorded = forget(&mut lent, used, number);
+    let forgotten = forget(&mut lent, used, number);
     RecordedWith {
         rows: lent,
-        used: recorded.used,
-        outcome: recorded.outcome,
+        used: forgotten.used,
+        outcome: forgotten.outcome,
     }
 }
 

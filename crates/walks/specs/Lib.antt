@@ -12,3 +12,4 @@ pub mod Lends
 pub mod Walk
 pub mod LocalValue
 pub mod ArrayField
+pub mod Operands

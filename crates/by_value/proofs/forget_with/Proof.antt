@@ -3,8 +3,9 @@
 use denote.Struct.Laws as LL
 use denote.Triple.Walked.{stay-dropped, goes-dropped}
 use mathlib.Core.Option.{Option, none, some as that}
-use Rattle.walks.specs.Walk.{ !, AllGo, Atoms, Calls, Contract, Env, Fml, FmC, Fun, GName, Given, Heap, Is, List, Local, Loops, Memory, MutSlice, RefT, Routine, SProp, Sq, Stays, Triple, URA, Val, Walks, WpFn, [], _$_, _<_, _^_, _∵_, _≡_, _∷_, addr, agg, alloc0, alloc1, and-then, assigns, atRet, cited, concludes, done, drop, emp, ends-at, ent, enter, erased, feqL, fjoin, fld, flft, fmOf, frame, from, fsplit, fst∗, ftrue, fullShare, givenOf, id⊢, init, join, land, learns, leave, lit, lit<, load, look, look-in, move, mut, named, no-more, nothing, number, of-opd, onEntry, owned, owns, params1, pass0, pass1, places, plain, pointee, prop, qed, raw, refl, returns, runs, says, sliceTy, sliceVal, stack, stop, sub, suffices, tables, tablesOf, token, tripleOf, tyArray, tyInt, tyRef, u8, uint-tells, uint-vals, use2, usize, via, vint, w64, w8, walkOf, walked, whole, yes, ‵, ℕ, ⋆}
+use Rattle.walks.specs.Walk.{ !, AllGo, Atoms, Calls, Contract, Env, Fml, FmC, Fun, GName, Given, Heap, Is, List, Local, Loops, Memory, MutSlice, RefT, Routine, SProp, Sq, Stays, Triple, URA, Val, Walks, WpFn, [], _$_, _*_, _-_, _<_, _^_, _∵_, _≡_, _∷_, addr, agg, alloc0, alloc1, and-then, assigns, atRet, cited, concludes, done, drop, emp, ends-at, ent, enter, erased, feqL, fjoin, flft, fmOf, frame, from, fsplit, fst∗, ftrue, fullShare, givenOf, id⊢, init, join, land, learns, leave, lit, lit<, load, look, move, mut, named, no-more, nothing, number, of-opd, onEntry, owned, owns, params1, pass0, pass1, places, plain, pointee, prop, qed, raw, refl, returns, runs, says, sliceTy, sliceVal, stack, stop, suc, suffices, tables, tablesOf, token, tripleOf, tyArray, tyInt, tyRef, u8, uint-tells, uint-vals, use2, usize, via, vint, vptr, w64, w8, walkOf, walked, yes, ‵, ℕ, ⋆}
 use Rattle.walks.specs.LocalArray.{on-local, off-local}
+use Rattle.walks.specs.Operands.{operand}
 use Rattle.nib.specs.Counters.{forgotten, left}
 use Rattle.nib.specs.declared.counters.CounterRow.{CounterRow}
 use Rattle.nib.specs.declared.counters.Recorded.{Recorded}
@@ -77,8 +78,19 @@ module _ {M : Type 1} (𝓤 : URA M) (H : Heap 𝓤) (A : Atoms 𝓤) (W : Given
       abbrev Start : List Local
       Start = Locals none none none none none none
 
+      -- what they hold at the end
+      abbrev End : Recorded → List CounterRow → List Local
+      End r zs = Locals none (that (array.val zs)) (that (LL.val O.the-type O′.the-laws r)) (that (vptr l₄ 0)) (that (sliceVal (l₄, 0) 64)) (that (array.val zs))
+
       abbrev En : Env 𝓤 H
       En = places Start
+
+      -- where the context has local k, and where it has a parameter while the array is lent
+      abbrev local : ℕ → ℕ
+      local k = 2 * (8 - k)
+
+      abbrev param : ℕ → ℕ
+      param k = suc (local k)
 
       body : Sq W (stack Start []) (runs C Λ En mir′.t-1 (atRet En Post))
       body =
@@ -89,7 +101,7 @@ module _ {M : Type 1} (𝓤 : URA M) (H : Heap 𝓤) (A : Atoms 𝓤) (W : Given
           move ! (8 ∷ []) $ on-local ! R.the-type R′.the-laws R′.the-plain 64 l₄ ys ys-is (named 0) array.room (λ ν δ.
           use2 W (raw (Forget 𝓤 H A mem run .pre (to-forget l₄ ν δ))) (goes-forget l₄ ν δ) $
           learns ! fm callee.ended (callee.clauses 𝓤 H A mem run) known (to-forget l₄ ν δ)
-          (and-then ! (load ! (from ! (stop !)) (look ! 4 refl)) (and-then ! (load ! (from ! (stop !)) (look ! 13 refl)) (and-then ! (load ! (from ! (stop !)) (look ! 11 refl)) (no-more !))))
+          (and-then ! (load ! (from ! (stop !)) (look ! 4 refl)) (and-then ! (operand ! param Start refl refl) (and-then ! (operand ! param Start refl refl) (no-more !))))
           (LL.vals O.the-type O′.the-laws) (LL.tells O.the-type O′.the-laws) (λ r ws. left r (ws .0) ≡ forgotten ys used n) (λ r ws. id⊢ 𝓤 _) (λ r ws r-is is-left.
           let zs : List CounterRow = ws .0 in
           land ! (from ! (stop !)) (init ! 9 refl (LL.lawful O.the-type O′.the-laws 𝓤 H A W .typed r _ r-is .0)) $ token ! (ν ∷ []) fullShare $
@@ -98,7 +110,7 @@ module _ {M : Type 1} (𝓤 : URA M) (H : Heap 𝓤) (A : Atoms 𝓤) (W : Given
           off-local ! R.the-type R′.the-laws R′.the-plain 64 l₄ ys ys-is ν δ zs same (λ zs-is. move ! (1 ∷ 2 ∷ 3 ∷ 4 ∷ 5 ∷ 6 ∷ 7 ∷ 8 ∷ []) $
           let is = handed-is r zs r-is zs-is in
           assigns ! (of-opd ! (load ! (from ! (stop !)) (look ! 8 refl))) (from ! (stop !)) (init ! 0 refl (array.typed 𝓤 H A W zs zs-is)) $
-          assigns ! (agg ! (and-then ! (load ! (from ! (stop !)) (look ! 0 refl)) (and-then ! (load ! (from ! (fld ! refl (stop !))) (look-in ! 6 (sub ! 1 refl (whole !)))) (and-then ! (load ! (from ! (fld ! refl (stop !))) (look-in ! 6 (sub ! 0 refl (whole !)))) (no-more !))))) (from ! (stop !)) (init ! 16 refl (LL.lawful S.the-type S′.the-laws 𝓤 H A W .typed (handed r zs) _ is .0)) $
+          assigns ! (agg ! (and-then ! (operand ! local (End r zs) refl refl) (and-then ! (operand ! local (End r zs) refl refl) (and-then ! (operand ! local (End r zs) refl refl) (no-more !))))) (from ! (stop !)) (init ! 16 refl (LL.lawful S.the-type S′.the-laws 𝓤 H A W .typed (handed r zs) _ is .0)) $
           returns ! (look ! 16 refl) $ leave ! [] (Locals (that _) (that _) (that _) (that _) (that _) (that _)) $ exits r zs is is-left))))
 
     walk : ent 𝓤 (onEntry 𝓤 H A f.signature tt tt x at) (WpFn 𝓤 H C Λ code.function (array.val ys ∷ vint w64 used ∷ vint w8 n ∷ []) Post)

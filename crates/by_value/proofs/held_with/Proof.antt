@@ -3,8 +3,9 @@
 use denote.Struct.Laws as LL
 use denote.Triple.Walked.{stay-dropped, goes-dropped}
 use mathlib.Core.Option.{Option, none, some as that}
-use Rattle.walks.specs.Walk.{ !, AllGo, Atoms, Calls, Contract, Env, Fml, FmC, Fun, GName, Given, Heap, Is, List, Local, Loops, Memory, ShrSlice, RefT, Routine, SProp, Sq, Stays, Triple, URA, Val, Walks, WpFn, [], _$_, _<_, _^_, _∵_, _≡_, _∷_, addr, agg, alloc0, alloc1, and-then, assigns, atRet, cited, concludes, done, drop, emp, ends-at, ent, enter, erased, fjoin, flft, fmOf, frame, from, fst∗, ftrue, fullShare, givenOf, id⊢, imm, init, join, land, learns, leave, lit, lit<, load, look, move, named, no-more, nothing, number, of-opd, onEntry, owned, owns, params1, pass0, pass1, places, plain, pointee, prop, qed, raw, refl, returns, runs, says, sliceTy, sliceVal, stack, stop, suffices, tables, tablesOf, token, tripleOf, tyArray, tyInt, tyRef, u64, u8, uint-tells, uint-vals, use2, usize, via, vint, w64, w8, walkOf, walked, yes, ‵, ℕ, ⋆}
+use Rattle.walks.specs.Walk.{ !, AllGo, Atoms, Calls, Contract, Env, Fml, FmC, Fun, GName, Given, Heap, Is, List, Local, Loops, Memory, ShrSlice, RefT, Routine, SProp, Sq, Stays, Triple, URA, Val, Walks, WpFn, [], _$_, _*_, _-_, _<_, _^_, _∵_, _≡_, _∷_, addr, agg, alloc0, alloc1, and-then, assigns, atRet, cited, concludes, done, drop, emp, ends-at, ent, enter, erased, fjoin, flft, fmOf, frame, from, fst∗, ftrue, fullShare, givenOf, id⊢, imm, init, join, land, learns, leave, lit, lit<, load, look, move, named, no-more, nothing, number, of-opd, onEntry, owned, owns, params1, pass0, pass1, places, plain, pointee, prop, qed, raw, refl, returns, runs, says, sliceTy, sliceVal, stack, stop, suc, suffices, tables, tablesOf, token, tripleOf, tyArray, tyInt, tyRef, u64, u8, uint-tells, uint-vals, use2, usize, via, vint, w64, w8, walkOf, walked, yes, ‵, ℕ, ⋆}
 use Rattle.walks.specs.LocalArray.{on-local-shared, off-local-shared}
+use Rattle.walks.specs.Operands.{operand}
 use Rattle.nib.specs.Counters.{heldFor, pair}
 use Rattle.nib.specs.declared.counters.CounterRow.{CounterRow}
 use Rattle.nib.specs.declared.counters.Standing.{Standing}
@@ -79,6 +80,10 @@ module _ {M : Type 1} (𝓤 : URA M) (H : Heap 𝓤) (A : Atoms 𝓤) (W : Given
       abbrev En : Env 𝓤 H
       En = places Start
 
+      -- where the context has a parameter while the array is lent
+      abbrev param : ℕ → ℕ
+      param k = suc (2 * (7 - k))
+
       body : Sq W (stack Start []) (runs C Λ En mir′.t-1 (atRet En Post))
       body =
           assigns ! (of-opd ! (load ! (from ! (stop !)) (look ! 12 refl))) (from ! (stop !)) (init ! 4 refl (array.typed 𝓤 H A W ys ys-is)) $
@@ -88,7 +93,7 @@ module _ {M : Type 1} (𝓤 : URA M) (H : Heap 𝓤) (A : Atoms 𝓤) (W : Given
           move ! (4 ∷ []) $ on-local-shared ! R.the-type R′.the-laws R′.the-plain 64 l₅ ys ys-is (named 0) array.room (λ ν δ.
           use2 W (raw (Held 𝓤 H A mem run .pre (to-held l₅ ν δ))) (goes-held l₅ ν δ) $
           learns ! fm callee.ended (callee.clauses 𝓤 H A mem run) known (to-held l₅ ν δ)
-          (and-then ! (load ! (from ! (stop !)) (look ! 2 refl)) (and-then ! (load ! (from ! (stop !)) (look ! 11 refl)) (and-then ! (load ! (from ! (stop !)) (look ! 9 refl)) (and-then ! (load ! (from ! (stop !)) (look ! 7 refl)) (no-more !)))))
+          (and-then ! (load ! (from ! (stop !)) (look ! 2 refl)) (and-then ! (operand ! param Start refl refl) (and-then ! (operand ! param Start refl refl) (and-then ! (operand ! param Start refl refl) (no-more !)))))
           (LL.vals S.the-type S′.the-laws) (LL.tells S.the-type S′.the-laws) (λ r ws. r ≡ heldFor ys used (pair n s)) (λ r ws. id⊢ 𝓤 _) (λ r ws is is-held.
           land ! (from ! (stop !)) (init ! 16 refl (LL.lawful S.the-type S′.the-laws 𝓤 H A W .typed r _ is .0)) $ token ! (ν ∷ []) fullShare $
           -- [the token; what is left; what the lender keeps; _7; …]

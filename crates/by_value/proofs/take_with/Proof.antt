@@ -3,8 +3,9 @@
 use denote.Struct.Laws as LL
 use denote.Triple.Walked.{stay-dropped, goes-dropped}
 use mathlib.Core.Option.{Option, none, some as that}
-use Rattle.walks.specs.Walk.{ !, AllGo, Atoms, Calls, Contract, Env, Fml, FmC, Fun, GName, Given, Heap, Is, List, Local, Loops, Memory, MutRef, RefT, Routine, SProp, Sq, Stays, Triple, URA, Val, Walks, WpFn, [], _$_, _∵_, _≡_, _∷_, addr, agg, alloc0, alloc1, and-then, assigns, atRet, cited, concludes, done, drop, emp, ends-at, ent, enter, erased, fjoin, fld, flft, fmOf, frame, from, fsplit, fst∗, ftrue, fullShare, givenOf, id⊢, init, join, land, learns, leave, load, look, look-in, move, mut, named, no-more, nothing, of-opd, onEntry, owned, owns, params1, pass0, pass1, places, plain, pointee, prop, qed, raw, refl, returns, runs, says, stack, stop, sub, suffices, tables, tablesOf, token, tripleOf, tyRef, use2, via, vptr, walkOf, walked, whole, yes, ‵, ℕ, ⋆}
+use Rattle.walks.specs.Walk.{ !, AllGo, Atoms, Calls, Contract, Env, Fml, FmC, Fun, GName, Given, Heap, Is, List, Local, Loops, Memory, MutRef, RefT, Routine, SProp, Sq, Stays, Triple, URA, Val, Walks, WpFn, [], _$_, _*_, _-_, _∵_, _≡_, _∷_, addr, agg, alloc0, alloc1, and-then, assigns, atRet, cited, concludes, done, drop, emp, ends-at, ent, enter, erased, fjoin, flft, fmOf, frame, from, fsplit, fst∗, ftrue, fullShare, givenOf, id⊢, init, join, land, learns, leave, load, look, move, mut, named, no-more, nothing, of-opd, onEntry, owned, owns, params1, pass0, pass1, places, plain, pointee, prop, qed, raw, refl, returns, runs, says, stack, stop, suffices, tables, tablesOf, token, tripleOf, tyRef, use2, via, vptr, walkOf, walked, yes, ‵, ℕ, ⋆}
 use Rattle.walks.specs.LocalValue.{on-value, off-value}
+use Rattle.walks.specs.Operands.{operand}
 use Rattle.nib.specs.Sending.{took, taken}
 use Rattle.nib.specs.declared.outgoing.Outgoing.{Outgoing}
 use Rattle.nib.specs.declared.outgoing.Taken.{Taken}
@@ -87,8 +88,16 @@ module _ {M : Type 1} (𝓤 : URA M) (H : Heap 𝓤) (A : Atoms 𝓤) (W : Given
       abbrev Start : List Local
       Start = Locals none none none none none
 
+      -- what they hold at the end
+      abbrev End : Taken → Outgoing → List Local
+      End r y = Locals none (that (hv y)) (that (LL.val R.the-type R′.the-laws r)) (that (vptr l₂ 0)) (that (hv y))
+
       abbrev En : Env 𝓤 H
       En = places Start
+
+      -- where the context has local k
+      abbrev local : ℕ → ℕ
+      local k = 2 * (5 - k)
 
       body : Sq W (stack Start []) (runs C Λ En mir′.t-1 (atRet En Post))
       body =
@@ -106,7 +115,7 @@ module _ {M : Type 1} (𝓤 : URA M) (H : Heap 𝓤) (A : Atoms 𝓤) (W : Given
           off-value ! T.the-type T′.the-laws T′.the-plain l₂ ν δ y (λ y-is. move ! (1 ∷ 2 ∷ 3 ∷ 4 ∷ 5 ∷ 6 ∷ []) $
           let is = handed-is r y r-is y-is in
           assigns ! (of-opd ! (load ! (from ! (stop !)) (look ! 6 refl))) (from ! (stop !)) (init ! 0 refl (LL.lawful T.the-type T′.the-laws 𝓤 H A W .typed y _ y-is .0)) $
-          assigns ! (agg ! (and-then ! (load ! (from ! (fld ! refl (stop !))) (look-in ! 4 (sub ! 0 refl (whole !)))) (and-then ! (load ! (from ! (fld ! refl (stop !))) (look-in ! 4 (sub ! 1 refl (whole !)))) (and-then ! (load ! (from ! (stop !)) (look ! 0 refl)) (no-more !))))) (from ! (stop !)) (init ! 10 refl (LL.lawful S.the-type S′.the-laws 𝓤 H A W .typed (handed r y) _ is .0)) $
+          assigns ! (agg ! (and-then ! (operand ! local (End r y) refl refl) (and-then ! (operand ! local (End r y) refl refl) (and-then ! (operand ! local (End r y) refl refl) (no-more !))))) (from ! (stop !)) (init ! 10 refl (LL.lawful S.the-type S′.the-laws 𝓤 H A W .typed (handed r y) _ is .0)) $
           returns ! (look ! 10 refl) $ leave ! [] (Locals (that _) (that _) (that _) (that _) (that _)) $ exits (handed r y) is is-taken)))
 
     walk : ent 𝓤 (onEntry 𝓤 H A f.signature tt tt x at) (WpFn 𝓤 H C Λ code.function (hv h ∷ []) Post)
