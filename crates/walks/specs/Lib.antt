@@ -10,4 +10,6 @@ pub mod Shared
 pub mod LocalArray
 pub mod Lends
 pub mod LocalValue
+pub mod ArrayField
+pub mod Operands
 pub mod Walk

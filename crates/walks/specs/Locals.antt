@@ -25,7 +25,7 @@ use denote.Steps.{owned}
 abbrev pub Local : Type 0
 Local = Ty × ℕ × Option Val
 
-abbrev held : Local → Fml
+abbrev pub held : Local → Fml
 held (τ, l, none) = froom τ l 0
 held (τ, l, some v) = fat fullShare τ l 0 v
 

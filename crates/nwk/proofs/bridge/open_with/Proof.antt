@@ -1,29 +1,29 @@
 -- `nwk::bridge::open_with` meets its contract: a walk of its code. A local array of rows is lent to `open_nwk` as a slice, for a lifetime
 -- that is made for the call, and comes back; the frame is lent on beside it. Assumes nothing.
-use denote.Lend.{Held}
 use denote.Struct.Laws as LL
 use denote.Enum.Laws as LE
 use denote.Triple.Walked.{stay-dropped, goes-dropped}
 use mathlib.Core.Option.{Option, none, some as that}
-use Rattle.walks.specs.Walk.{ !, AllGo, Array, Atoms, Calls, Contract, Env, Field, Fml, FmC, Fun, GName, Given, Heap, Is, Item, Lft, List, Local, Loops, Memory, MutSlice, RattleType, RefT, Room, Routine, SProp, Share, Sq, Stays, T, Triple, URA, Val, WT, Walks, WpFn, [], _$_, _*_, _++_, _<_, _^_, _∙_, _∵_, _≡_, _⊛_, _∷_, addr, agg, alloc0, alloc1, and-then, ap, arith, array-tells, array-typed, array-vals, arrayVal, assigns, atRet, await, cellAt, cited, concludes, done, drop, each, emp, ends-at, ent, enter, erased, fat, feqL, fjoin, fld, flent, flft, fmOf, frame, from, fsplit, fst∗, ftrue, fullShare, given, givenOf, goes-slice, hasTy, hop, id⊢, init, join, land, later, learn, leave, length, length-map, lft-end, lft-new, lit, lit<, load, look, look-in, map, move, mut, mut-slice-tells, named, no-more, nothing, number, of-opd, onEntry, only, owned, owns, params1, pass0, pass1, pick, places, plain, pointee, prop, qed, raw, refl, returns, rewrite, runs, says, shadow, slice-vals, sliceTy, sliceVal, some, split, stack, stay-slice, stop, sub, subst, suffices, sym, tables, tablesOf, tripleOf, tyArray, tyInt, tyRef, u8, uint-tells, uint-vals, use1, use3, usize, vcons, via, vint, vnil, vstruct, w64, w8, walkOf, walked, whole, yes, ‵, ℕ, ⋆}
-use Rattle.walks.specs.Lends.{on-again, off-again, learns}
-use Rattle.walks.specs.LocalArray.{lends-local, local-back}
+use Rattle.walks.specs.Walk.{ !, AllGo, Atoms, Calls, Contract, Env, Fml, FmC, Fun, GName, Given, Heap, Is, Item, Lft, List, Local, Loops, Memory, MutSlice, RefT, Room, Routine, SProp, Share, Sq, Stays, Triple, URA, Val, Walks, WpFn, [], _$_, _++_, _<_, _^_, _∵_, _≡_, _⊛_, _∷_, addr, agg, alloc0, alloc1, and-then, arrayVal, assigns, atRet, cited, concludes, done, drop, emp, ends-at, ent, enter, erased, feqL, fjoin, fld, flft, fmOf, frame, from, fsplit, fst∗, ftrue, fullShare, givenOf, goes-slice, hop, id⊢, init, join, land, leave, length, lit, lit<, load, look, look-in, move, mut, mut-slice-tells, named, no-more, nothing, number, of-opd, on-again, off-again, learns, onEntry, only, owned, owns, params1, pass0, pass1, places, plain, pointee, prop, qed, raw, refl, returns, runs, says, slice-vals, sliceTy, sliceVal, split, stack, stay-slice, stop, sub, subst, suffices, tables, tablesOf, tripleOf, tyArray, tyInt, tyRef, u8, uint-tells, uint-vals, use1, use3, usize, vcons, via, vint, vnil, vstruct, w64, w8, walkOf, walked, whole, yes, ‵, ℕ, ⋆}
+use Rattle.walks.specs.ArrayField.{array-in, vals-same}
+use Rattle.walks.specs.LocalArray.{on-local, off-local}
 use Rattle.answer.specs.declared.Answer.{Answer}
 use Rattle.answer.proofs.Answer as A′
 use Rattle.answer.proofs.Answer.Laws as A″
 use Rattle.nib.specs.declared.counters.CounterRow.{CounterRow}
 use Rattle.nib.proofs.counters.CounterRow as R
 use Rattle.nib.proofs.counters.CounterRow.Laws as R′
+use Rattle.nib.proofs.CounterArray as array
 use Rattle.nwk.specs.declared.bridge.OpenedWith.{OpenedWith}
 use Rattle.nwk.specs.declared.open.OpenedNwk.{OpenedNwk}
 use Rattle.nwk.specs.declared.state.Nwk.{Nwk}
 use Rattle.nwk.specs.Halves.{opened, openedWith}
 use Rattle.nwk.specs.OpenNwk.{openNwk}
+use Rattle.nwk.proofs.Values.{nv, av as answer-val, ov}
 use Rattle.nwk.proofs.bridge.OpenedWith as S
 use Rattle.nwk.proofs.bridge.OpenedWith.Laws as S′
 use Rattle.nwk.proofs.open.OpenedNwk as O
 use Rattle.nwk.proofs.open.OpenedNwk.Laws as O′
-use Rattle.nwk.proofs.Values.{nv, ov, av as answer-val}
 use Rattle.nwk.proofs.state.Nwk as N
 use Rattle.nwk.proofs.state.Nwk.Laws as N′
 use Rattle.nwk.proofs.open.open_nwk as open-nwk
@@ -35,54 +35,23 @@ use Rattle.nwk.proofs.bridge.open_with.Statement as stated
 use Rattle.nwk.proofs.bridge.open_with.Code as code
 use Rattle.nwk.proofs.bridge.open_with.Code.Mir as mir′
 
--- the array's type, and how its value is spelled
-abbrev Rows : RattleType
-Rows = Array R.the-row 64
-
-abbrev rowVals : CounterRow → List Val
-rowVals = LL.vals R.the-type R′.the-laws
-
 abbrev stayed : Stays (f.ended .signature .params) (f.ended .kept)
-stayed = (stay-dropped (plain (λ _. N.the-row)) yes, (stay-dropped (plain (λ _. Rows)) yes, (stay-dropped (plain (λ _. usize)) yes, (stay-slice (0 ∷ []) tt (plain (λ _. u8)), tt))))
+stayed = (stay-dropped (plain (λ _. N.the-row)) yes, (stay-dropped (plain (λ _. array.Rows)) yes, (stay-dropped (plain (λ _. usize)) yes, (stay-slice (0 ∷ []) tt (plain (λ _. u8)), tt))))
 
 module _ {M : Type 1} (𝓤 : URA M) (H : Heap 𝓤) (A : Atoms 𝓤) (mem : Memory → SProp 𝓤) (run : Routine → Fun 𝓤) where
   -- the contract that the proof cites
   abbrev Open : Contract 𝓤
   Open = tripleOf 𝓤 H A open-nwk.signature (open-nwk.spec 𝓤 H A mem run)
 
--- the array's one machine value
-abbrev av : List CounterRow → Val
-av l = only (array-vals rowVals l)
-
--- ---- an array of a struct as a field of another struct: its elements stand there as the tuples of their fields, with the same machine values
-abbrev F : Field
-F = R.the-field
-
-vals-same : (zs : List CounterRow) → map (R′.the-field-laws .val) (map (F .into) zs) ≡ map (λ (y : CounterRow). only (rowVals y)) zs
-vals-same [] = refl
-vals-same (z ∷ zs) = ap (λ (us : List Val). only (rowVals z) ∷ us) (vals-same zs)
-
-each-in : (zs : List CounterRow) (us : List Val) → shadow (each CounterRow (R.the-row .own) zs us) → shadow (each (F .row .Denot) (F .row .own) (map (F .into) zs) us)
-each-in [] [] e = e
-each-in [] (u ∷ us) e = absurd e
-each-in (z ∷ zs) [] e = absurd e
-each-in (z ∷ zs) (u ∷ us) e = (e .0, each-in zs us (e .1))
-
-array-in : (zs : List CounterRow) → Is Rows zs (array-vals rowVals zs) → Is (Array (F .row) 64) (map (F .into) zs) (arrayVal (map (R′.the-field-laws .val) (map (F .into) zs)) ∷ [])
-array-in zs e = (e .0, ((ap (λ (us : List Val). arrayVal us ∷ []) (vals-same zs) ∙ e .1 .0 .0, length-map zs (F .into) ∙ e .1 .0 .1), each-in zs (e .0) (e .1 .1)))
-
-room-of : (n : ℕ) → n ≡ 64 → (n < 2 ^ 64) × (n * 24 < 2 ^ 63)
-room-of n e = (omega arith, omega arith)
-
 -- what is handed back: the answer r and the rows zs
 abbrev handed : OpenedNwk → List CounterRow → OpenedWith
 handed r zs = record { rows = zs; used = r .used; active = r .active; answer = r .answer }
 
 abbrev hv : OpenedNwk → List CounterRow → Val
-hv r zs = vstruct (vcons (av zs) (vcons (vint w64 (r .used)) (vcons (vint w8 (r .active)) (vcons (answer-val (r .answer)) vnil))))
+hv r zs = vstruct (vcons (array.val zs) (vcons (vint w64 (r .used)) (vcons (vint w8 (r .active)) (vcons (answer-val (r .answer)) vnil))))
 
 module _ {M : Type 1} (𝓤 : URA M) (H : Heap 𝓤) (A : Atoms 𝓤) (W : Given 𝓤 H A) (mem : Memory → SProp 𝓤) (run : Routine → Fun 𝓤) (κ : Lft) (q : Share) (b o : ℕ) (γ : GName) (bs : List ℕ) (s : Nwk) (ys : List CounterRow) (used : ℕ)
-    (room : Room u8 (length bs)) (s-is : Is N.the-row s (nv s ∷ [])) (ys-is : Is Rows ys (array-vals rowVals ys)) (used-fits : used < 2 ^ 64) where
+    (room : Room u8 (length bs)) (s-is : Is N.the-row s (nv s ∷ [])) (ys-is : Is array.Rows ys (array.vals ys)) (used-fits : used < 2 ^ 64) where
   abbrev ref : GName → List ℕ → RefT (List ℕ)
   ref δ l = record { ptr = (b, o); name = δ; now = l }
 
@@ -96,16 +65,7 @@ module _ {M : Type 1} (𝓤 : URA M) (H : Heap 𝓤) (A : Atoms 𝓤) (W : Given
   x = (s, (ys, (used, (ref γ bs, tt))))
 
   abbrev at : List Val × (List Val × (List Val × (List Val × Unit {0})))
-  at = (nv s ∷ [], (av ys ∷ [], (vint w64 used ∷ [], (fv ∷ [], tt))))
-
-  long : length ys ≡ 64
-  long = ys-is .1 .0 .1
-
-  rows-room : Room R.the-row (length ys)
-  rows-room = room-of (length ys) long
-
-  typed : (zs : List CounterRow) → Is Rows zs (array-vals rowVals zs) → T (hasTy (tyArray R′.mir 64) (av zs)) × WT (av zs)
-  typed zs is-zs = array-typed R.the-row (LL.lawful R.the-type R′.the-laws 𝓤 H A W .typed) 64 zs (array-vals rowVals zs) is-zs .0
+  at = (nv s ∷ [], (array.vals ys, (vint w64 used ∷ [], (fv ∷ [], tt))))
 
   abbrev Post : Val → SProp 𝓤
   Post = walkOf 𝓤 H A f.ended stayed (f.clauses 𝓤 H A mem run) .post (((κ, tt), (q, tt), tt, x, at), tt)
@@ -129,10 +89,10 @@ module _ {M : Type 1} (𝓤 : URA M) (H : Heap 𝓤) (A : Atoms 𝓤) (W : Given
     the = record { ptr = (l, 0); name = δ; now = ys }
 
     abbrev to-open : Open 𝓤 H A mem run .Ghost
-    to-open = (((ν ∷ [], (ν₂ ∷ [], tt)), (fullShare, (fullShare, tt)), tt, (s, (the, (used, (ref δ₂ bs, tt)))), (nv s ∷ [], (sliceVal (l, 0) (length ys) ∷ [], (vint w64 used ∷ [], (fv ∷ [], tt))))), tt)
+    to-open = (((ν ∷ [], (ν₂ ∷ [], tt)), (fullShare, (fullShare, tt)), tt, (s, (the, (used, (ref δ₂ bs, tt)))), (nv s ∷ [], (sliceVal (l, 0) 64 ∷ [], (vint w64 used ∷ [], (fv ∷ [], tt))))), tt)
 
     abbrev GivenR : Fml
-    GivenR = MutSlice (named 0) (ν ∷ []) R.the-row .own the (sliceVal (l, 0) (length ys) ∷ [])
+    GivenR = MutSlice (named 0) (ν ∷ []) R.the-row .own the (sliceVal (l, 0) 64 ∷ [])
 
     abbrev GivenF : Fml
     GivenF = MutSlice (named 1) (ν₂ ∷ []) u8 .own (ref δ₂ bs) (fv ∷ [])
@@ -144,19 +104,19 @@ module _ {M : Type 1} (𝓤 : URA M) (H : Heap 𝓤) (A : Atoms 𝓤) (W : Given
         nothing ! $ move ! (1 ∷ 0 ∷ []) $ join ! $ move ! (2 ∷ 0 ∷ []) $ join ! $ nothing ! $ move ! (2 ∷ 0 ∷ []) $ fjoin ! $ number ! w64 used used-fits $ fjoin ! $ move ! (2 ∷ 0 ∷ []) $ fjoin ! $
         owned ! N.the-row (Is N.the-row) (LL.makes N.the-type N′.the-plain 𝓤 H A) s _ s-is $ fjoin ! $ move ! (1 ∷ 0 ∷ []) $ join ! $ frame ! $ done !
 
-  handed-is : (r : OpenedNwk) (zs : List CounterRow) → Is O.the-row r (ov r ∷ []) → Is Rows zs (array-vals rowVals zs) → Is S.the-row (handed r zs) (hv r zs ∷ [])
+  handed-is : (r : OpenedNwk) (zs : List CounterRow) → Is O.the-row r (ov r ∷ []) → Is array.Rows zs (array.vals zs) → Is S.the-row (handed r zs) (hv r zs ∷ [])
   handed-is r zs r-is zs-is =
       let w = LL.owed O.the-type O′.the-laws r (ov r ∷ []) r-is in
-      subst (λ (us : List Val). Is S.the-row (handed r zs) (vstruct (vcons (arrayVal us) (vcons (vint w64 (r .used)) (vcons (vint w8 (r .active)) (vcons (answer-val (r .answer)) vnil)))) ∷ [])) (vals-same zs)
-      (LL.owes S.the-type S′.the-laws (handed r zs) (array-in zs zs-is, (w .1 .0, (w .1 .1 .0, (w .0, tt)))))
+      subst (λ (us : List Val). Is S.the-row (handed r zs) (vstruct (vcons (arrayVal us) (vcons (vint w64 (r .used)) (vcons (vint w8 (r .active)) (vcons (answer-val (r .answer)) vnil)))) ∷ [])) (vals-same R.the-type R′.the-laws zs)
+      (LL.owes S.the-type S′.the-laws (handed r zs) (array-in R.the-type R′.the-laws 64 zs zs-is, (w .1 .0, (w .1 .1 .0, (w .0, tt)))))
 
   module _ (C : Calls 𝓤 H) (Λ : Loops 𝓤 H) (fm : FmC 𝓤 H (W .laws) C) (known : Triple 𝓤 (C open-nwk-def.name) (Open 𝓤 H A mem run)) where
     module _ (l₀ l₁ l₂ l₃ l₄ l₅ l₆ l₇ l₈ l₉ l₁₀ l₁₁ : ℕ) where
       -- the locals, with what _0 and those from _5 on hold
       abbrev Locals : Option Val → Option Val → Option Val → Option Val → Option Val → Option Val → Option Val → Option Val → List Local
       Locals v₀ v₅ v₆ v₇ v₈ v₉ v₁₀ v₁₁ =
-          (S′.mir, l₀, v₀) ∷ (N′.mir, l₁, that (nv s)) ∷ (tyArray R′.mir 64, l₂, that (av ys)) ∷ (tyInt w64, l₃, that (vint w64 used)) ∷ (sliceTy (tyRef (named 0) mut (tyInt w8)), l₄, that fv) ∷ (tyArray R′.mir 64, l₅, v₅) ∷ (O′.mir, l₆, v₆)
-          ∷ (tyRef erased mut (tyArray (pointee (R.the-row .written)) 64), l₇, v₇) ∷ (sliceTy (tyRef erased mut (pointee (R.the-row .written))), l₈, v₈) ∷ (tyRef erased mut (tyInt w8), l₉, v₉) ∷ (sliceTy (tyRef erased mut (tyInt w8)), l₁₀, v₁₀) ∷ (tyArray R′.mir 64, l₁₁, v₁₁) ∷ []
+          (S′.mir, l₀, v₀) ∷ (N′.mir, l₁, that (nv s)) ∷ (array.ty, l₂, that (array.val ys)) ∷ (tyInt w64, l₃, that (vint w64 used)) ∷ (sliceTy (tyRef (named 0) mut (tyInt w8)), l₄, that fv) ∷ (array.ty, l₅, v₅) ∷ (O′.mir, l₆, v₆)
+          ∷ (tyRef erased mut (tyArray (pointee (R.the-row .written)) 64), l₇, v₇) ∷ (sliceTy (tyRef erased mut (pointee (R.the-row .written))), l₈, v₈) ∷ (tyRef erased mut (tyInt w8), l₉, v₉) ∷ (sliceTy (tyRef erased mut (tyInt w8)), l₁₀, v₁₀) ∷ (array.ty, l₁₁, v₁₁) ∷ []
 
       abbrev Start : List Local
       Start = Locals none none none none none none none none
@@ -166,18 +126,14 @@ module _ {M : Type 1} (𝓤 : URA M) (H : Heap 𝓤) (A : Atoms 𝓤) (W : Given
 
       body : Sq W (Front bs ++ stack Start []) (runs C Λ En mir′.t-1 (atRet En Post))
       body =
-          assigns ! (of-opd ! (load ! (from ! (stop !)) (look ! 20 refl))) (from ! (stop !)) (init ! 14 refl (typed ys ys-is)) $
+          assigns ! (of-opd ! (load ! (from ! (stop !)) (look ! 20 refl))) (from ! (stop !)) (init ! 14 refl (array.typed 𝓤 H A W ys ys-is)) $
           assigns ! (addr ! (from ! (stop !))) (from ! (stop !)) (init ! 10 refl (tt, tt)) $
           assigns ! (agg ! (and-then ! (load ! (from ! (stop !)) (look ! 10 refl)) (and-then ! (lit ! tt) (no-more !)))) (from ! (stop !)) (init ! 8 refl (tt, (tt, (record { fits = lit< tt }, tt)))) $
-          rewrite ! 8 (λ (m : ℕ). ‵ (fat fullShare (sliceTy (tyRef erased mut (pointee (R.the-row .written)))) l₈ 0 (sliceVal (l₅, 0) m))) (sym long) refl $
           assigns ! (addr ! (from ! (fld ! refl (hop ! (look-in ! 16 (sub ! 0 refl (whole !))) (stop !))))) (from ! (stop !)) (init ! 6 refl (tt, tt)) $
           assigns ! (agg ! (and-then ! (load ! (from ! (stop !)) (look ! 6 refl)) (and-then ! (load ! (from ! (fld ! refl (stop !))) (look-in ! 16 (sub ! 1 refl (whole !)))) (no-more !)))) (from ! (stop !)) (init ! 4 refl (tt, (tt, (record { fits = room .0 }, tt)))) $
           -- the local array and the frame are lent
-          lft-new ! tt (λ ν. move ! (15 ∷ []) $
-          use1 W (‵ (cellAt fullShare (Rows .mir) (array-vals rowVals ys) l₅ 0)) (W .laws .at-raw fullShare (tyArray R′.mir 64) l₅ 0 (av ys)) $
-          use1 W (later (some (λ (δ : GName). ‵ (MutSlice (named 0) (ν ∷ []) R.the-row .own (record { ptr = (l₅, 0); name = δ; now = ys }) (sliceVal (l₅, 0) (length ys) ∷ [])) ⊛ ‵ (flent (ν ∷ []) (Held R.the-row (length ys) l₅ 0 δ)))))
-          (lends-local R.the-row tt 64 𝓤 H A W rowVals (LL.tells R.the-type R′.the-laws) (LL.makes R.the-type R′.the-plain 𝓤 H A) (named 0) (ν ∷ []) ys l₅ ys-is rows-room) $ await ! tt $ pick ! (λ δ. split ! $
-          move ! (3 ∷ 4 ∷ []) $ on-again ! u8 (named 0) (named 1) κ q γ b o bs (λ ν₂ δ₂. join ! $ move ! (4 ∷ 2 ∷ []) $
+          move ! (14 ∷ []) $ on-local ! R.the-type R′.the-laws R′.the-plain 64 l₅ ys ys-is (named 0) array.room (λ ν δ.
+          move ! (3 ∷ 4 ∷ []) $ on-again ! u8 (named 0) (named 1) κ q γ b o bs (λ ν₂ δ₂. join ! $ move ! (2 ∷ 3 ∷ []) $
           use3 W (raw (Open 𝓤 H A mem run .pre (to-open l₅ ν ν₂ δ δ₂))) (goes-open l₅ ν ν₂ δ δ₂) $
           learns ! fm open-nwk.ended (open-nwk.clauses 𝓤 H A mem run) known (to-open l₅ ν ν₂ δ δ₂) (and-then ! (load ! (from ! (stop !)) (look ! 22 refl)) (and-then ! (load ! (from ! (stop !)) (look ! 9 refl)) (and-then ! (load ! (from ! (stop !)) (look ! 18 refl)) (and-then ! (load ! (from ! (stop !)) (look ! 5 refl)) (no-more !)))))
           (LL.vals O.the-type O′.the-laws) (LL.tells O.the-type O′.the-laws) (λ r ws. opened r (ws .1 .0) (ws .1 .1 .1 .0) ≡ openNwk s ys used bs) (λ r ws. id⊢ 𝓤 _) (λ r ws r-is is-opened.
@@ -188,30 +144,28 @@ module _ {M : Type 1} (𝓤 : URA M) (H : Heap 𝓤) (A : Atoms 𝓤) (W : Given
           -- [the frame's token; the rows'; what is left; what the lenders keep; _11; …]
           move ! (2 ∷ []) $ fsplit ! $ drop ! $ fsplit ! $ fsplit ! $ move ! (1 ∷ []) $ feqL ! (λ same. move ! (1 ∷ []) $ fsplit ! $ drop ! $ fsplit ! $ move ! (1 ∷ []) $ drop ! $ fsplit ! $ move ! (1 ∷ []) $ feqL ! (λ same′.
           move ! (2 ∷ 4 ∷ 0 ∷ []) $ off-again ! u8 (named 0) (named 1) κ q γ b o bs room ν₂ δ₂ fs same′ $
-          move ! (3 ∷ []) $ lft-end ! tt $ move ! (0 ∷ 4 ∷ 3 ∷ []) $
-          use3 W (later (given (Is Rows zs (array-vals rowVals zs)) (‵ (cellAt fullShare (Rows .mir) (array-vals rowVals zs) l₅ 0))))
-          (local-back R.the-row tt 64 𝓤 H A W rowVals (LL.tells R.the-type R′.the-laws) (LL.makes R.the-type R′.the-plain 𝓤 H A) (ν ∷ []) δ ys zs l₅ long same) $ await ! tt $ learn ! (λ zs-is.
-          use1 W (‵ (fat fullShare (tyArray R′.mir 64) l₅ 0 (av zs))) (W .laws .raw-at fullShare (tyArray R′.mir 64) l₅ 0 (av zs)) $ move ! (1 ∷ 2 ∷ 3 ∷ 4 ∷ 5 ∷ 6 ∷ 7 ∷ 8 ∷ 9 ∷ 10 ∷ 11 ∷ 12 ∷ 13 ∷ 14 ∷ []) $
-          assigns ! (of-opd ! (load ! (from ! (stop !)) (look ! 14 refl))) (from ! (stop !)) (init ! 2 refl (typed zs zs-is)) $
+          move ! (3 ∷ 4 ∷ 2 ∷ []) $ off-local ! R.the-type R′.the-laws R′.the-plain 64 l₅ ys ys-is ν δ zs same (λ zs-is.
+          move ! (1 ∷ 2 ∷ 3 ∷ 4 ∷ 5 ∷ 6 ∷ 7 ∷ 8 ∷ 9 ∷ 10 ∷ 11 ∷ 12 ∷ 13 ∷ 14 ∷ []) $
+          assigns ! (of-opd ! (load ! (from ! (stop !)) (look ! 14 refl))) (from ! (stop !)) (init ! 2 refl (array.typed 𝓤 H A W zs zs-is)) $
           assigns ! (agg ! (and-then ! (load ! (from ! (stop !)) (look ! 2 refl)) (and-then ! (load ! (from ! (fld ! refl (stop !))) (look-in ! 12 (sub ! 1 refl (whole !)))) (and-then ! (load ! (from ! (fld ! refl (stop !))) (look-in ! 12 (sub ! 2 refl (whole !)))) (and-then ! (load ! (from ! (fld ! refl (stop !))) (look-in ! 12 (sub ! 0 refl (whole !)))) (no-more !)))))) (from ! (stop !)) (init ! 24 refl (LL.lawful S.the-type S′.the-laws 𝓤 H A W .typed (handed r zs) _ (handed-is r zs r-is zs-is) .0)) $
-          returns ! (look ! 24 refl) $ leave ! (Front fs) (Locals (that _) (that _) (that _) (that _) (that _) (that _) (that _) (that _)) $ exits fs r zs same′ (handed-is r zs r-is zs-is) is-opened)))))))
+          returns ! (look ! 24 refl) $ leave ! (Front fs) (Locals (that _) (that _) (that _) (that _) (that _) (that _) (that _) (that _)) $ exits fs r zs same′ (handed-is r zs r-is zs-is) is-opened))))))
 
-    walk : ent 𝓤 (onEntry 𝓤 H A f.signature (κ, tt) (q, tt) x at) (WpFn 𝓤 H C Λ code.function (nv s ∷ av ys ∷ vint w64 used ∷ fv ∷ []) Post)
+    walk : ent 𝓤 (onEntry 𝓤 H A f.signature (κ, tt) (q, tt) x at) (WpFn 𝓤 H C Λ code.function (nv s ∷ array.val ys ∷ vint w64 used ∷ fv ∷ []) Post)
     walk =
-        qed W ((‵ (flft κ q) ⊛ ‵ ftrue) ∷ ‵ (owns (N.the-row ∷ Rows ∷ usize ∷ MutSlice (named 0) κ u8 ∷ []) x at) ∷ []) ∵
+        qed W ((‵ (flft κ q) ⊛ ‵ ftrue) ∷ ‵ (owns (N.the-row ∷ array.Rows ∷ usize ∷ MutSlice (named 0) κ u8 ∷ []) x at) ∷ []) ∵
         split ! $ move ! (1 ∷ []) $ drop ! $ move ! (1 ∷ []) $ fsplit ! $ drop ! $ fsplit ! $ drop ! $ fsplit ! $ drop ! $ fsplit ! $ move ! (1 ∷ []) $ drop ! $ move ! (1 ∷ 0 ∷ []) $
-        enter ! C Λ code.function (nv s ∷ av ys ∷ vint w64 used ∷ fv ∷ []) _ $
+        enter ! C Λ code.function (nv s ∷ array.val ys ∷ vint w64 used ∷ fv ∷ []) _ $
         alloc1 ! (λ l₀. alloc1 ! (λ l₁. alloc1 ! (λ l₂. alloc1 ! (λ l₃. alloc1 ! (λ l₄. alloc1 ! (λ l₅. alloc1 ! (λ l₆. alloc1 ! (λ l₇. alloc1 ! (λ l₈. alloc1 ! (λ l₉. alloc1 ! (λ l₁₀. alloc1 ! (λ l₁₁. alloc0 ! $ params1 ! $
-        pass1 ! (init ! 20 refl (LL.lawful N.the-type N′.the-laws 𝓤 H A W .typed s _ s-is .0)) $ pass1 ! (init ! 18 refl (typed ys ys-is)) $ pass1 ! (init ! 16 refl (tt, record { fits = used-fits })) $ pass1 ! (init ! 14 refl (tt, (tt, (record { fits = room .0 }, tt)))) $ pass0 ! $
+        pass1 ! (init ! 20 refl (LL.lawful N.the-type N′.the-laws 𝓤 H A W .typed s _ s-is .0)) $ pass1 ! (init ! 18 refl (array.typed 𝓤 H A W ys ys-is)) $ pass1 ! (init ! 16 refl (tt, record { fits = used-fits })) $ pass1 ! (init ! 14 refl (tt, (tt, (record { fits = room .0 }, tt)))) $ pass0 ! $
         move ! (24 ∷ 25 ∷ []) $ body l₀ l₁ l₂ l₃ l₄ l₅ l₆ l₇ l₈ l₉ l₁₀ l₁₁))))))))))))
 
 module _ {M : Type 1} (𝓤 : URA M) (H : Heap 𝓤) (A : Atoms 𝓤) (W : Given 𝓤 H A) (mem : Memory → SProp 𝓤) (run : Routine → Fun 𝓤) where
   goes : AllGo 𝓤 H A W 1 (f.signature .params) (f.ended .kept) stayed
-  goes = (goes-dropped 𝓤 H A W 1 (plain (λ _. N.the-row)) yes (λ κs x f. refl), (goes-dropped 𝓤 H A W 1 (plain (λ _. Rows)) yes (λ κs x f. refl), (goes-dropped 𝓤 H A W 1 (plain (λ _. usize)) yes (λ κs x f. refl), (goes-slice 𝓤 H A W 1 0 tt (plain (λ _. u8)), tt))))
+  goes = (goes-dropped 𝓤 H A W 1 (plain (λ _. N.the-row)) yes (λ κs x f. refl), (goes-dropped 𝓤 H A W 1 (plain (λ _. array.Rows)) yes (λ κs x f. refl), (goes-dropped 𝓤 H A W 1 (plain (λ _. usize)) yes (λ κs x f. refl), (goes-slice 𝓤 H A W 1 0 tt (plain (λ _. u8)), tt))))
 
   walks : (C : Calls 𝓤 H) (Λ : Loops 𝓤 H) → FmC 𝓤 H (W .laws) C → Triple 𝓤 (C open-nwk-def.name) (Open 𝓤 H A mem run) → Walks 𝓤 H A f.ended stayed (WpFn 𝓤 H C Λ code.function) (f.clauses 𝓤 H A mem run)
-  walks C Λ fm known = walked 𝓤 H A f.ended stayed (f.clauses 𝓤 H A mem run) (WpFn 𝓤 H C Λ code.function) (λ κs. (LL.vals N.the-type N′.the-laws, (array-vals rowVals, (uint-vals w64, (slice-vals, tt)))))
-      (λ κs. (LL.tells N.the-type N′.the-laws, (array-tells R.the-row rowVals (LL.tells R.the-type R′.the-laws) 64, (uint-tells w64, (mut-slice-tells (named 0) (κs .0) u8, tt)))))
+  walks C Λ fm known = walked 𝓤 H A f.ended stayed (f.clauses 𝓤 H A mem run) (WpFn 𝓤 H C Λ code.function) (λ κs. (LL.vals N.the-type N′.the-laws, (array.vals, (uint-vals w64, (slice-vals, tt)))))
+      (λ κs. (LL.tells N.the-type N′.the-laws, (array.tells, (uint-tells w64, (mut-slice-tells (named 0) (κs .0) u8, tt)))))
       (λ κs qs bounds a g are. via 𝓤 _ (fst∗ 𝓤 _ (emp 𝓤)) (walk 𝓤 H A W mem run (κs .0) (qs .0) (a .1 .1 .1 .0 .ptr .0) (a .1 .1 .1 .0 .ptr .1) (a .1 .1 .1 .0 .name) (a .1 .1 .1 .0 .now) (a .0) (a .1 .0) (a .1 .1 .0)
       (are .1 .1 .1 .0 .0 .1) (are .0) (are .1 .0) (are .1 .1 .0 .1) C Λ fm known))
 

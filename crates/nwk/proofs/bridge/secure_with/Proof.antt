@@ -5,9 +5,8 @@ use denote.Enum.Laws as LE
 use denote.Signature.{shrSliceOf}
 use denote.Triple.Walked.{stay-dropped, goes-dropped}
 use mathlib.Core.Option.{Option, none, some as that}
-use Rattle.walks.specs.Walk.{ !, AllGo, Atoms, Body, Calls, Contract, Env, Fml, FmC, Fun, GName, Given, Heap, Is, Item, Lft, List, Local, Loops, Memory, MutRef, MutSlice, RefT, Room, Routine, SProp, Share, ShrSlice, Sq, Stays, Triple, URA, Val, Walks, WpFn, [], _$_, _∵_, _≡_, _⊛_, _∷_, addr, agg, alloc0, alloc1, and-then, assigns, atRet, await, cellAt, cited, concludes, done, drop, emp, ends-at, ent, enter, erased, fat, feqL, fjoin, fld, flent, flft, fmOf, frame, from, fsplit, fst∗, ftrue, fullShare, given, givenOf, goes-slice, hop, id⊢, imm, init, join, land, later, learn, leave, length, lft-end, lft-new, load, look, look-in, mem, move, mut, mut-slice-tells, named, no-more, nothing, of-opd, onEntry, only, owned, owns, params1, pass0, pass1, pick, places, plain, pointee, prop, qed, raw, refl, returns, runs, says, shr-slice-tells, slice-vals, sliceTy, sliceVal, some, split, stack, stay-slice, stop, sub, suffices, tables, tablesOf, tripleOf, tyInt, tyRef, u8, use1, use3, via, vptr, w8, walkOf, walked, whole, yes, ‵, ℕ, ⋆}
-use Rattle.walks.specs.Lends.{on-again, off-again, learns}
-use Rattle.walks.specs.LocalValue.{lends-value, value-back}
+use Rattle.walks.specs.Walk.{ !, AllGo, Atoms, Calls, Contract, Env, Fml, FmC, Fun, GName, Given, Heap, Is, Item, Lft, List, Local, Loops, Memory, MutRef, MutSlice, RefT, Room, Routine, SProp, Share, ShrSlice, Sq, Stays, Triple, URA, Val, Walks, WpFn, [], _$_, _∵_, _≡_, _⊛_, _∷_, addr, agg, alloc0, alloc1, and-then, assigns, atRet, cited, concludes, done, drop, emp, ends-at, ent, enter, erased, feqL, fjoin, fld, flft, fmOf, frame, from, fsplit, fst∗, ftrue, fullShare, givenOf, goes-slice, hop, id⊢, imm, init, join, land, leave, length, load, look, look-in, move, mut, mut-slice-tells, named, no-more, nothing, of-opd, on-again, off-again, learns, onEntry, only, owned, owns, params1, pass0, pass1, places, plain, pointee, prop, qed, raw, refl, returns, runs, says, shr-slice-tells, slice-vals, sliceTy, sliceVal, split, stack, stay-slice, stop, sub, suffices, tables, tablesOf, tripleOf, tyInt, tyRef, u8, use1, use3, via, vptr, w8, walkOf, walked, whole, yes, ‵, ℕ, ⋆}
+use Rattle.walks.specs.LocalValue.{on-value, off-value}
 use Rattle.answer.specs.declared.Answer.{Answer}
 use Rattle.answer.proofs.Answer as A′
 use Rattle.answer.proofs.Answer.Laws as A″
@@ -18,9 +17,9 @@ use Rattle.nwk.specs.declared.bridge.SecuredWith.{SecuredWith}
 use Rattle.nwk.specs.declared.state.Nwk.{Nwk}
 use Rattle.nwk.specs.Ready.{secured, securedWith}
 use Rattle.nwk.specs.SecureNwk.{secureNwk}
+use Rattle.nwk.proofs.Values.{nv, hv, av}
 use Rattle.nwk.proofs.bridge.SecuredWith as S
 use Rattle.nwk.proofs.bridge.SecuredWith.Laws as S′
-use Rattle.nwk.proofs.Values.{nv, hv, av}
 use Rattle.nwk.proofs.state.Nwk as N
 use Rattle.nwk.proofs.state.Nwk.Laws as N′
 use Rattle.nwk.proofs.secure.secure_nwk as secure
@@ -40,7 +39,7 @@ module _ {M : Type 1} (𝓤 : URA M) (H : Heap 𝓤) (A : Atoms 𝓤) (at-mem : 
   abbrev Secure : Contract 𝓤
   Secure = tripleOf 𝓤 H A secure.signature (secure.spec 𝓤 H A at-mem run)
 
--- the result's one machine value
+-- its one machine value
 abbrev sv : SecuredWith → Val
 sv r = only (LL.vals S.the-type S′.the-laws r)
 
@@ -133,11 +132,8 @@ module _ {M : Type 1} (𝓤 : URA M) (H : Heap 𝓤) (A : Atoms 𝓤) (W : Given
           assigns ! (addr ! (from ! (fld ! refl (hop ! (look-in ! 16 (sub ! 0 refl (whole !))) (stop !))))) (from ! (stop !)) (init ! 8 refl (tt, tt)) $
           assigns ! (agg ! (and-then ! (load ! (from ! (stop !)) (look ! 8 refl)) (and-then ! (load ! (from ! (fld ! refl (stop !))) (look-in ! 16 (sub ! 1 refl (whole !)))) (no-more !)))) (from ! (stop !)) (init ! 6 refl (tt, (tt, (record { fits = room′ .0 }, tt)))) $
           -- the local record and the output buffer are lent
-          lft-new ! tt (λ ν. move ! (15 ∷ []) $
-          use1 W (‵ (cellAt fullShare (T.the-row .mir) (LL.vals T.the-type T′.the-laws h) l₅ 0)) (W .laws .at-raw fullShare T′.mir l₅ 0 (hv h)) $
-          use1 W (later (some (λ (δ : GName). ‵ (MutRef (named 0) (ν ∷ []) T.the-row .own (record { ptr = (l₅, 0); name = δ; now = h }) (vptr l₅ 0 ∷ [])) ⊛ ‵ (flent (ν ∷ []) (Body (mem T.the-row) l₅ 0 δ)))))
-          (lends-value T.the-row 𝓤 H A W (LL.vals T.the-type T′.the-laws) (LL.tells T.the-type T′.the-laws) (LL.makes T.the-type T′.the-plain 𝓤 H A) (named 0) (ν ∷ []) h l₅ h-is) $ await ! tt $ pick ! (λ δ. split ! $
-          move ! (5 ∷ 6 ∷ []) $ on-again ! u8 (named 1) (named 2) κ′ q′ γ′ b′ o′ os (λ ν₂ δ₂. join ! $ move ! (4 ∷ 2 ∷ []) $ join ! $ move ! (4 ∷ 5 ∷ []) $ join ! $
+          move ! (14 ∷ []) $ on-value ! T.the-type T′.the-laws T′.the-plain l₅ h h-is (named 0) (λ ν δ.
+          move ! (5 ∷ 6 ∷ []) $ on-again ! u8 (named 1) (named 2) κ′ q′ γ′ b′ o′ os (λ ν₂ δ₂. join ! $ move ! (2 ∷ 3 ∷ []) $ join ! $ move ! (4 ∷ 5 ∷ []) $ join ! $
           use3 W (raw (Secure 𝓤 H A at-mem run .pre (to-secure l₅ ν ν₂ δ δ₂))) (goes-secure l₅ ν ν₂ δ δ₂) $
           learns ! fm secure.ended (secure.clauses 𝓤 H A at-mem run) known (to-secure l₅ ν ν₂ δ δ₂) (and-then ! (load ! (from ! (stop !)) (look ! 20 refl)) (and-then ! (load ! (from ! (stop !)) (look ! 9 refl)) (and-then ! (load ! (from ! (stop !)) (look ! 16 refl)) (and-then ! (load ! (from ! (stop !)) (look ! 5 refl)) (no-more !)))))
           (LE.vals A′.the-type A″.the-laws) (LE.tells A′.the-type A″.the-laws) (λ a ws. secured a (ws .1 .1 .1 .0) (ws .1 .0) ≡ secureNwk s h ps os) (λ a ws. id⊢ 𝓤 _) (λ a ws a-is is-secured.
@@ -148,14 +144,12 @@ module _ {M : Type 1} (𝓤 : URA M) (H : Heap 𝓤) (A : Atoms 𝓤) (W : Given
           -- [the buffer's token; the plain frame's; the record's; what is left; what the lenders keep; _10; …]
           move ! (3 ∷ []) $ fsplit ! $ drop ! $ fsplit ! $ move ! (1 ∷ []) $ fsplit ! $ drop ! $ fsplit ! $ move ! (1 ∷ []) $ drop ! $ fsplit ! $ move ! (1 ∷ []) $ feqL ! (λ same.
           move ! (2 ∷ 5 ∷ 0 ∷ []) $ off-again ! u8 (named 1) (named 2) κ′ q′ γ′ b′ o′ os room′ ν₂ δ₂ l same $
-          move ! (4 ∷ []) $ lft-end ! tt $ move ! (0 ∷ 5 ∷ 3 ∷ []) $
-          use3 W (later (given (Is T.the-row y (LL.vals T.the-type T′.the-laws y)) (‵ (cellAt fullShare (T.the-row .mir) (LL.vals T.the-type T′.the-laws y) l₅ 0))))
-          (value-back T.the-row 𝓤 H A W (LL.vals T.the-type T′.the-laws) (LL.tells T.the-type T′.the-laws) (LL.makes T.the-type T′.the-plain 𝓤 H A) (ν ∷ []) δ y l₅) $ await ! tt $ learn ! (λ y-is.
-          use1 W (‵ (fat fullShare T′.mir l₅ 0 (hv y))) (W .laws .raw-at fullShare T′.mir l₅ 0 (hv y)) $ move ! (3 ∷ 1 ∷ 2 ∷ 4 ∷ 5 ∷ 6 ∷ 7 ∷ 8 ∷ 9 ∷ 10 ∷ 11 ∷ 12 ∷ 13 ∷ []) $
+          move ! (4 ∷ 5 ∷ 2 ∷ []) $ off-value ! T.the-type T′.the-laws T′.the-plain l₅ ν δ y (λ y-is.
+          move ! (3 ∷ 1 ∷ 2 ∷ 4 ∷ 5 ∷ 6 ∷ 7 ∷ 8 ∷ 9 ∷ 10 ∷ 11 ∷ 12 ∷ 13 ∷ []) $
           let r-is = result-is a y a-is y-is in
           assigns ! (of-opd ! (load ! (from ! (stop !)) (look ! 13 refl))) (from ! (stop !)) (init ! 3 refl (LL.lawful T.the-type T′.the-laws 𝓤 H A W .typed y _ y-is .0)) $
           assigns ! (agg ! (and-then ! (load ! (from ! (stop !)) (look ! 11 refl)) (and-then ! (load ! (from ! (stop !)) (look ! 3 refl)) (no-more !)))) (from ! (stop !)) (init ! 23 refl (LL.lawful S.the-type S′.the-laws 𝓤 H A W .typed (record { answer = a; outgoing = y }) _ r-is .0)) $
-          returns ! (look ! 23 refl) $ leave ! (Front l) (Locals (that _) (that _) (that _) (that _) (that _) (that _) (that _)) $ exits l (record { answer = a; outgoing = y }) same r-is is-secured))))))
+          returns ! (look ! 23 refl) $ leave ! (Front l) (Locals (that _) (that _) (that _) (that _) (that _) (that _) (that _)) $ exits l (record { answer = a; outgoing = y }) same r-is is-secured)))))
 
     walk : ent 𝓤 (onEntry 𝓤 H A f.signature (κ, (κ′, tt)) (q, (q′, tt)) x at) (WpFn 𝓤 H C Λ code.function (nv s ∷ hv h ∷ pv ∷ wv ∷ []) Post)
     walk =
