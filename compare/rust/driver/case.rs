@@ -28,6 +28,10 @@ pub fn number(bytes: &[u8]) -> u64 {
     bytes.iter().rev().fold(0, |high, low| high << 8 | u64::from(*low))
 }
 
+pub fn hex(bytes: &[u8]) -> String {
+    bytes.iter().map(|byte| format!("{byte:02x}")).collect()
+}
+
 impl<'a> Case<'a> {
     /// The first case of `bytes`, and what comes after it.
     pub fn first_of(bytes: &'a [u8]) -> Option<(Self, &'a [u8])> {
@@ -66,31 +70,31 @@ pub struct Line {
     pub answer: String,
     pub span: Option<(usize, usize)>,
     pub numbers: Vec<u64>,
-    pub rows: Vec<u8>,
+    pub rows: String,
     pub bytes: Vec<u8>,
 }
 
 impl Line {
     pub fn of(answer: impl ToString) -> Self {
-        Self { answer: answer.to_string(), span: Some((0, 0)), numbers: vec![], rows: vec![], bytes: vec![] }
+        Self { answer: answer.to_string(), span: Some((0, 0)), numbers: vec![], rows: String::new(), bytes: vec![] }
     }
 
     pub fn text(&self, case: &Case) -> String {
-        let shown = |bit: u8, text: String| if case.show & bit == 0 { ".".into() } else { text };
-        let hex = |bytes: &[u8]| match bytes {
-            [] => "-".into(),
-            _ => bytes.iter().map(|byte| format!("{byte:02x}")).collect::<String>(),
+        let shown = |bit: u8, text: String| match text.as_str() {
+            _ if case.show & bit == 0 => ".".into(),
+            "" => "-".into(),
+            _ => text,
         };
-        let span = self.span.map_or("? ?".into(), |(start, len)| format!("{start} {len}"));
-        let numbers = match self.numbers.as_slice() {
-            [] => "-".into(),
-            numbers => numbers.iter().map(u64::to_string).collect::<Vec<_>>().join(","),
+        let (start, len) = match self.span {
+            Some((start, len)) => (start.to_string(), len.to_string()),
+            None => ("?".into(), "?".into()),
         };
         [
             shown(1, self.answer.clone()),
-            if case.show & 2 == 0 { ". .".into() } else { span },
-            shown(4, numbers),
-            shown(8, hex(&self.rows)),
+            shown(2, start),
+            shown(2, len),
+            shown(4, self.numbers.iter().map(u64::to_string).collect::<Vec<_>>().join(",")),
+            shown(8, self.rows.clone()),
             shown(16, hex(&self.bytes)),
         ]
         .join(" ")

@@ -39,7 +39,7 @@ use aps::frame::header::Header as ApsHeader;
 use aps::frame::{Frame as ApsFrame, frame_control::FrameType as ApsType};
 use aps::types::TxOptions;
 use byte::{TryRead, TryWrite};
-use case::{Case, Line, number};
+use case::{Case, Line, hex, number};
 use nwk::frame::header::Header as NwkHeader;
 use nwk::frame::{Frame as NwkFrame, frame_control::FrameType as NwkType};
 use nwk::nib::{IncomingFrameCounterDescriptor, NetworkSecurityMaterialDescriptor, Nib, storage as nib_storage};
@@ -104,12 +104,11 @@ fn nib_of(case: &Case) -> Nib {
     nib
 }
 
-fn rows_of(nib: &Nib) -> Vec<u8> {
+fn rows_of(nib: &Nib) -> String {
     let row = |row: &IncomingFrameCounterDescriptor| {
-        let (sender, counter) = (row.sender_address.0.to_le_bytes(), row.incoming_frame_counter.to_le_bytes());
-        [&[row.key_seq_number][..], &sender, &counter].concat()
+        format!("{:02x}{:016x}{:08x}", row.key_seq_number, row.sender_address.0, row.incoming_frame_counter)
     };
-    nib.incoming_frame_counters().iter().flat_map(row).collect()
+    nib.incoming_frame_counters().iter().map(row).collect()
 }
 
 fn aib_of(case: &Case) -> Aib {
@@ -128,18 +127,20 @@ fn aib_of(case: &Case) -> Aib {
     aib
 }
 
-fn pairs_of(aib: &Aib) -> Vec<u8> {
+/// The number of an enum of one octet.
+fn octet(value: impl TryWrite) -> u8 {
+    let mut space = [0];
+    value.try_write(&mut space, ()).unwrap();
+    space[0]
+}
+
+fn pairs_of(aib: &Aib) -> String {
     let row = |pair: &DeviceKeyPairDescriptor| {
-        let mut row = [0; 34];
-        row[..8].copy_from_slice(&pair.device_address.0.to_le_bytes());
-        pair.key_attributes.try_write(&mut row[8..], ()).unwrap();
-        row[9..25].copy_from_slice(&pair.link_key.0);
-        pair.link_key_type.clone().try_write(&mut row[25..], ()).unwrap();
-        row[26..30].copy_from_slice(&pair.outgoing_frame_counter.to_le_bytes());
-        row[30..].copy_from_slice(&pair.incoming_frame_counter.to_le_bytes());
-        row
+        let (attribute, kind) = (octet(pair.key_attributes), octet(pair.link_key_type.clone()));
+        let counters = format!("{:08x}{:08x}", pair.outgoing_frame_counter, pair.incoming_frame_counter);
+        format!("{:016x}{attribute:02x}{}{kind:02x}{counters}", pair.device_address.0, hex(&pair.link_key.0))
     };
-    aib.device_key_pair_set().iter().flat_map(row).collect()
+    aib.device_key_pair_set().iter().map(row).collect()
 }
 
 /// The payload's start and length, where the frame is handed back with its payload.
