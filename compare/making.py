@@ -48,10 +48,10 @@ class Maker:
         return tuple((self.random.choice(NUMBERS), 0x1000 + i, self.counter()) for i in range(32))
 
     def pairs(self, repeated=False):
-        devices = self.random.sample(ADDRESSES, self.random.randint(0, 2))
+        devices = self.random.sample(ADDRESSES, self.random.choice((0, 1, 1, 2, 2, 2)))
         if repeated:
             devices = [self.random.choice(ADDRESSES)] * 2
-        attribute = lambda: self.random.choice((0, 1, 2, 2, 2, 3, 4, 255))
+        attribute = lambda: self.random.choice((0, 1, 2, 2, 2, 2, 2, 3, 4, 255))
         return tuple((device, attribute(), self.random.choice(KEYS), self.random.choice((0, 1, 7)), self.counter(), self.counter()) for device in devices)
 
     def nwk_header(self, kind, secured=True, route=None, flags=None):
@@ -313,7 +313,9 @@ class Maker:
         call = self.random.choice(('record', 'record', 'forget', 'advance', 'record_aps', 'take', 'reset'))
         rows = self.full_rows() if self.random.random() < 0.05 else self.counter_rows(self.random.choice((0, 3, 30)))
         pairs = self.pairs(call == 'advance' and self.random.random() < 0.2)
-        given = dict(number=self.random.choice(NUMBERS), device=self.random.choice(ADDRESSES), counter=self.counter(), outgoing=self.counter())
+        device = self.random.choice([row[0] for row in pairs] or ADDRESSES) if call in ('advance', 'record_aps') else self.random.choice(ADDRESSES)
+        device = device if self.random.random() < 0.8 else self.random.choice(ADDRESSES)
+        given = dict(number=self.random.choice(NUMBERS), device=device, counter=self.counter(), outgoing=self.counter())
         given |= dict(rows=rows) if call in ('record', 'forget') else dict(pairs=pairs) if call in ('advance', 'record_aps') else {}
         self.add(call, **given)
 
