@@ -139,11 +139,11 @@ def of_hash(case, line):
 def of_keyed_hash(case, line):
     key, text = len(case.first), len(case.second)
     if key >= 8192 or text >= 8176:
-        return Found('H9, H10', Line('7', '0', '0', '-', '-', '00' * 16), 0)
+        return Found('H10, H11', Line('7', '0', '0', '-', '-', '00' * 16), 0)
     if key < 16:
         return Found('H6, H7', Line('0', '0', '0', '-', '-', None), 0)
     if key > 16 and key % 16 in (14, 15) or text % 16 in (14, 15):
-        return Found('H8', Line('0', '0', '0', '-', '-', None), 0)
+        return Found('H8, H9', Line('0', '0', '0', '-', '-', None), 0)
     return same(line)
 
 

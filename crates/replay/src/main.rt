@@ -18,7 +18,7 @@ use asked::size;
 use libc::STDIN_FILENO;
 use parts::part;
 
-// No run has more cases.
+// No run takes more cases.
 const MOST: usize = 1000000;
 
 fn run_frame(case: Case, body: &[u8], space: &mut [u8]) {
