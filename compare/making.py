@@ -193,6 +193,32 @@ class Maker:
                     for room in range(len(plain) - 2, len(plain) + 21):
                         self.securing_nwk(plain=plain, room=room, right=True)
 
+    def all_rooms(self):
+        """Every kind of APS frame that is taken, with room around each boundary."""
+        for kind, delivery, text in [(0, delivery, b'payload') for delivery in (0, 2, 3)] + [(1, delivery, text) for delivery in range(4) for text in (
+                b'\x09\7', b'\x20', b'\5\1' + bytes(33), b'\5\3' + bytes(25), b'\5\4' + bytes(32))]:
+            plain = self.aps_header(kind, delivery) + text
+            for room in range(len(plain) - 2, len(plain) + 20):
+                for attribute in (0, 1, 2, 3):
+                    case = Case('secure_aps', own=OWN, device=1, extended=1, first=plain, room=room, pairs=((1, attribute, KEYS[0], 0, 5, 5),))
+                    self.cases.append(case)
+                    self.finish_aps(case)
+
+    def long_frames(self):
+        """Sizes around 1,024 and 1,006."""
+        nwk = dict(keys=((7, KEYS[1]),), active=7, own=OWN)
+        aps = dict(pairs=((ADDRESSES[0], 2, KEYS[0], 0, 5, 5),), own=OWN)
+        rest = low(6, 4) + low(ADDRESSES[0], 8)
+        for size in range(1016, 1028):
+            payload = self.octets(size)
+            use = lambda call, at, gateway: lambda front, sealed: self.present(call, at, front, sealed, None, gateway)
+            self.seal(KEYS[1], self.nwk_header(0, flags=0), 0x28, rest + b'\7', payload[:size - 26], use('open_nwk', 8, nwk))
+            self.seal(KEYS[0], self.aps_header(0, 0), 0x20, rest, payload[:size - 25], use('open_aps', 8, aps))
+        for size in range(1000, 1010):
+            for room in range(size + 14, size + 20):
+                self.add('secure_nwk', first=self.nwk_header(0, flags=0) + self.octets(size - 8), room=room, outgoing=5, **nwk)
+                self.add('secure_aps', first=self.aps_header(0, 0) + self.octets(size - 8), room=room, device=ADDRESSES[0], extended=1, **aps)
+
     # the random part
 
     def opening_nwk(self, header=None, right=None):
@@ -325,12 +351,16 @@ class Maker:
         self.add(call, first=self.octets(self.random.choice(sizes) if call != 'keyed_hash' else self.random.choice((16, 16, 17, 32, 40, 5))),
                  second=b'' if call == 'hash' else self.octets(self.random.choice(sizes)))
 
+    def sealed(self):
+        """The project's cipher beside the stood-in one."""
+        self.add('seal', number=4, first=self.octets(29 + self.random.choice((0, 1, 13, 14, 15, 22, 30, 31, 200))), second=self.payload())
+
     def make(self, most):
         """All of the exhaustive part, and random cases until there are as many as asked for, or a few more."""
         self.link_keys()
-        for part in (self.controls, self.headers, self.hashes, self.numbers, self.short_frames, self.all_flags):
+        for part in (self.controls, self.headers, self.hashes, self.numbers, self.short_frames, self.all_flags, self.all_rooms, self.long_frames):
             part()
-        weights = ((self.opening_nwk, 30), (self.securing_nwk, 25), (self.opening_aps, 25), (self.securing_aps, 20), (self.table, 12), (self.hashed, 4))
+        weights = ((self.opening_nwk, 30), (self.securing_nwk, 25), (self.opening_aps, 25), (self.securing_aps, 20), (self.table, 12), (self.hashed, 4), (self.sealed, 1))
         parts = [part for part, weight in weights for _ in range(weight)]
         while len(self.cases) + len(self.waiting) < most:
             self.random.choice(parts)()
