@@ -65,7 +65,7 @@ def cases():
     opened('P7 active 255, opened under 0', 255, 0, 6)
     opened('P8 active 7, opened under 9', 7, 9, 6)
     line('P9 reset at 0x80000000, 0x80000001', 0x80000000, 0)
-    line('P10 NWK outgoing 2^32-1', 6)
+    line('P10 NWK outgoing 2^32-1, secured, taken', 6, 6)
     opened('11 held 5, counter 6', 7, 7, 6, held=5)
     opened('12 no row, counter 0', 7, 7, 0)
     opened('13 four bytes after the headers', 7, 7, 6, text=b'')

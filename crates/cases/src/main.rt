@@ -205,8 +205,11 @@ fn outgoing() {
     let secured = nwk::secure_with(gateway(7, 7), last, &plain, &mut out);
     let answer = secured.answer;
     let told = answer::told_of(answer);
-    text(b"\nP10 NWK outgoing 2^32-1:");
+    let taken = by_value::take_with(last);
+    let outcome = taken.outcome;
+    text(b"\nP10 NWK outgoing 2^32-1, secured, taken:");
     number(told.number as u64);
+    number(answer::outcome_number(outcome) as u64);
     text(b"\n");
 }
 

@@ -73,6 +73,10 @@ use Rattle.counter_record.proofs.take as counter-record-take′
 use Rattle.counter_rows.proofs.held as counter-rows-held′
 use Rattle.counter_rows.proofs.record as counter-rows-record′
 use Rattle.counter_rows.proofs.forget as counter-rows-forget′
+use Rattle.by_value.proofs.record_with as by-value-record-with′
+use Rattle.by_value.proofs.forget_with as by-value-forget-with′
+use Rattle.by_value.proofs.held_with as by-value-held-with′
+use Rattle.by_value.proofs.take_with as by-value-take-with′
 use Rattle.aib.proofs.find as aib-find′
 use Rattle.aib.proofs.usable as aib-usable′
 use Rattle.aib.proofs.advance as aib-advance′
@@ -346,6 +350,24 @@ counter-rows-forget-says M 𝓤 H A mem run κs a g z e = refl
 pub counter-rows-forget : Decides counter-rows-forget′.ended counter-rows-forget-promise
 unfolding Decides
 counter-rows-forget κs a z z′ ws ws′ p q = let w = counters.one _ z z′ _ _ p q in (w .0, λ i. (w .1 i, (tt, (tt, tt))))
+
+-- ---- by_value
+
+pub by-value-record-with : Decides by-value-record-with′.ended by-value-record-with′.Reads.Post
+unfolding Decides
+by-value-record-with κs a z z′ ws ws′ p q = let same = p ∙ sym q in (λ i. record { rows = same i .rows; used = same i .used; outcome = same i .outcome }, refl)
+
+pub by-value-forget-with : Decides by-value-forget-with′.ended by-value-forget-with′.Reads.Post
+unfolding Decides
+by-value-forget-with κs a z z′ ws ws′ p q = let same = p ∙ sym q in (λ i. record { rows = same i .rows; used = same i .used; outcome = same i .outcome }, refl)
+
+pub by-value-held-with : Decides by-value-held-with′.ended by-value-held-with′.Reads.Post
+unfolding Decides
+by-value-held-with κs a z z′ ws ws′ p q = (p ∙ sym q, refl)
+
+pub by-value-take-with : Decides by-value-take-with′.ended by-value-take-with′.Reads.Post
+unfolding Decides
+by-value-take-with κs a z z′ ws ws′ p q = let same = p ∙ sym q in (λ i. record { outcome = same i .outcome; counter = same i .counter; outgoing = same i .outgoing }, refl)
 
 -- ---- aib
 
