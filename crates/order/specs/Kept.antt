@@ -3,10 +3,11 @@ use mathlib.Core.Path.{_≡_, refl}
 use mathlib.Core.Bool.{Bool, true, false, cond, _||_}
 use mathlib.Core.List.{List, _++_}
 use Prim.Native.Nat.{ℕ, _≤_}
+use native.Mathlib.Omega.{arith}
 use lib.ListN.{length, take, drop, take-append-drop}
 use lib.Seq.{length-take-le}
 use Rattle.answer.specs.declared.Answer.{Answer}
-use Rattle.answer.specs.declared.Answer.the-variants.{Done}
+use Rattle.answer.specs.declared.Answer.the-variants.{Done, Refused}
 use Rattle.answer.specs.declared.Refusal.{Refusal}
 use Rattle.cells.specs.ListLaws.{clash}
 use Rattle.cells.specs.Rows.{Rows, Reaction, leave, become, Settled, put, room, settle}
@@ -14,6 +15,9 @@ use Rattle.protection.specs.Heard.{Heard, refused}
 
 abbrev pub NotDone : Answer → Type 0
 NotDone a = (start len : ℕ) → a ≡ Done start len → ⊥
+
+pub refused-not-done : {a : Answer} {why : Refusal} → a ≡ Refused why → NotDone a
+refused-not-done e start len f = let z : _≡_ {A = ℕ} 0 1 = cc in omega arith
 
 -- where none of two holds, the second does not
 pub neither : (x y : Bool) → (x || y) ≡ false → y ≡ false

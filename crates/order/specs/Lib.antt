@@ -7,6 +7,7 @@ pub mod NwkMachine
 pub mod NwkActive
 pub mod NwkOrder
 pub mod ApsOrder
+pub mod NotAgain
 pub mod Refusals
 pub mod Kept
 pub mod NwkKept

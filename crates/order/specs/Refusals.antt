@@ -19,14 +19,11 @@ use Rattle.nwk.specs.SecureNwk.{secureNwk}
 use Rattle.aps.specs.declared.state.Aps.{Aps}
 use Rattle.aps.specs.OpenAps.{openAps}
 use Rattle.aps.specs.SecureAps.{secureAps}
-use Rattle.order.specs.Kept.{NotDone}
+use Rattle.order.specs.Kept.{NotDone, refused-not-done}
 use Rattle.order.specs.NwkKept.{nwk-opening, nwk-securing}
 use Rattle.order.specs.ApsKept.{aps-opening, aps-securing}
 
--- a refusal and a plain frame are not done
-refused-not-done : {a : Answer} {why : Refusal} → a ≡ Refused why → NotDone a
-refused-not-done e start len f = let z : _≡_ {A = ℕ} 0 1 = cc in omega arith
-
+-- a plain frame is not done
 plain-not-done : {a : Answer} {start len : ℕ} → a ≡ Plain start len → NotDone a
 plain-not-done e start len f = let z : _≡_ {A = ℕ} 0 1 = cc in omega arith
 
