@@ -9,6 +9,7 @@ pub mod Search
 pub mod FreeRows
 pub mod Machine
 pub mod Product
+pub mod Rising
 pub mod Reorder
 pub mod ReorderLaws
 pub mod Desk
