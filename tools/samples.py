@@ -21,9 +21,9 @@ KEYS = {7: bytes(range(0x40, 0x50)), 8: bytes(range(0x80, 0x90))}
 LOGGERS = {'retort 1': (0x00124B0001A0B101, 0x1001), 'retort 2': (0x00124B0001A0B102, 0x1002), 'cold store': (0x00124B0001A0B103, 0x1003)}
 
 
-# document 01's answer numbers, by reason
-DONE, PLAIN, CUT, WRONG_TAG, NO_KEY = 0, 1, 2, 5, 4
-REPEATED, BEHIND, PAIR_REPEATED = 3, 3, 4
+# the answer numbers of document 01 and of request W-201, by reason
+DONE, PLAIN, CUT, WRONG_TAG, NO_KEY = 0, 1, 2, 5, 40
+REPEATED, BEHIND, PAIR_REPEATED = 33, 34, 33
 
 
 def field(tag, body):
@@ -118,7 +118,7 @@ def main():
     folder = pathlib.Path(__file__).resolve().parent.parent
     made = {'samples/case-15.fields': CASE_15, 'samples/shift.fields': shift(), 'samples/shift.lines': lines(shift())}
     made['samples/case-15.lines'] = lines(CASE_15)
-    assert made['samples/case-15.lines'] == b'1 1 8 1\n2 2 0 0\n3 4 0 0\n'
+    assert made['samples/case-15.lines'] == b'1 1 8 1\n2 2 0 0\n3 40 0 0\n'
     both = CASE_15 + shift()    # the stored run of the frame reader: case 15, and the shift after it
     made['crates/frame_reader/stdin'], made['crates/frame_reader/stdout'] = both, lines(both)
     if '--check' in sys.argv[1:]:

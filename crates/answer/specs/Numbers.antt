@@ -1,4 +1,4 @@
--- Document 01's answer numbers.
+-- The answer numbers: document 01's, with the finer ones of request W-201 (document 02).
 use Prim.Native.Nat.{ℕ}
 use Rattle.answer.specs.declared.Refusal.{Refusal}
 use Rattle.answer.specs.declared.Refusal.the-variants.{Cut, CounterSpent, SenderAbsent, KeyNotAllowed, CounterRepeated, CounterBehind, PairCounterRepeated, PairCounterBehind, NoNetworkKey, NoPair, TableFull, DeviceAbsent, WrongTag, CounterExhausted, Unsupported, NoRoom}
@@ -11,17 +11,17 @@ use Rattle.answer.specs.declared.Told.{Told}
 -- the number of each refusal
 abbrev pub number : Refusal → ℕ
 number Cut = 2
-number CounterSpent = 3
-number SenderAbsent = 3
-number KeyNotAllowed = 3
-number CounterRepeated = 3
-number CounterBehind = 3
-number PairCounterRepeated = 4
-number PairCounterBehind = 4
-number NoNetworkKey = 4
-number NoPair = 4
-number TableFull = 4
-number DeviceAbsent = 4
+number CounterSpent = 30
+number SenderAbsent = 31
+number KeyNotAllowed = 32
+number CounterRepeated = 33
+number CounterBehind = 34
+number PairCounterRepeated = 33
+number PairCounterBehind = 34
+number NoNetworkKey = 40
+number NoPair = 41
+number TableFull = 42
+number DeviceAbsent = 43
 number WrongTag = 5
 number CounterExhausted = 6
 number Unsupported = 7

@@ -1,4 +1,4 @@
-// What a call answers, and document 01's number for it (there: the table of answer numbers).
+// What a call answers, and its number: document 01's, with the finer ones of request W-201 (document 02).
 ghost use mathlib.Core.Path.{_≡_};
 ghost use Rattle.answer.specs.Numbers.{number, outcomeNumber, told};
 
@@ -51,7 +51,7 @@ pub enum Answer {
     Refused(Refusal),
 }
 
-// Document 01's answer number, and the start and length that go with it.
+// The answer's number, and the start and length that go with it.
 pub struct Told {
     pub number: u8,
     pub start: usize,
@@ -63,17 +63,17 @@ pub fn number_of(refusal: Refusal) -> u8
 {
     match refusal {
         Refusal::Cut => 2,
-        Refusal::CounterSpent => 3,
-        Refusal::SenderAbsent => 3,
-        Refusal::KeyNotAllowed => 3,
-        Refusal::CounterRepeated => 3,
-        Refusal::CounterBehind => 3,
-        Refusal::PairCounterRepeated => 4,
-        Refusal::PairCounterBehind => 4,
-        Refusal::NoNetworkKey => 4,
-        Refusal::NoPair => 4,
-        Refusal::TableFull => 4,
-        Refusal::DeviceAbsent => 4,
+        Refusal::CounterSpent => 30,
+        Refusal::SenderAbsent => 31,
+        Refusal::KeyNotAllowed => 32,
+        Refusal::CounterRepeated => 33,
+        Refusal::CounterBehind => 34,
+        Refusal::PairCounterRepeated => 33,
+        Refusal::PairCounterBehind => 34,
+        Refusal::NoNetworkKey => 40,
+        Refusal::NoPair => 41,
+        Refusal::TableFull => 42,
+        Refusal::DeviceAbsent => 43,
         Refusal::WrongTag => 5,
         Refusal::CounterExhausted => 6,
         Refusal::Unsupported => 7,

@@ -32,7 +32,7 @@ abbrev pub incoming : Option Pair → Option ℕ
 incoming none = none
 incoming (some p) = some (p .incoming)
 
--- Known device and counter not above its incoming counter: 4. Fewer than 4 bytes left: 2. Wrong tag: 5. Unknown device and no free row: 4.
+-- Known device and counter equal to its incoming counter: 33; below it: 34. Fewer than 4 bytes left: 2. Wrong tag: 5. Unknown device and no free row: 42.
 -- Else 0, with the buffer as for NWK; the device's incoming counter is the frame's.
 unfoldable pub apsJudged : Claim → Option Pair → List ℕ → Reaction Heard Pair
 apsJudged c held b =

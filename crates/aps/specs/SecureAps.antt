@@ -67,7 +67,7 @@ apsDone s pairs device row identifier plain out header = record {
   pairs = holding (atFirst (mayUse device) raised (inUse pairs)) pairs;
 }
 
--- No row for the destination with attribute 0, 1 or 2: 4. Its outgoing counter 2^32-1: 3. Data without the extended nonce asked for: 3. Too
+-- No row for the destination with attribute 0, 1 or 2: 41. Its outgoing counter 2^32-1: 30. Data without the extended nonce asked for: 31. Too
 -- little room: 8.
 abbrev pub apsSent : Aps → Pairs → ℕ → Bool → KeyIdentifier → List ℕ → List ℕ → ℕ → Option PairRow → Secured
 apsSent s pairs device extended identifier plain out header none = notSecured NoPair out pairs

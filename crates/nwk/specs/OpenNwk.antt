@@ -23,8 +23,8 @@ use Rattle.protection.specs.Claims.{numberOf, nwkWho}
 use Rattle.protection.specs.Heard.{Heard, refused, equals, below}
 use Rattle.protection.specs.Protection.{level, tagSize, payloadSize, vouches, openedOctets}
 
--- A row held for key number and sender, and frame counter not above it: 3. Fewer than 4 bytes left: 2. Wrong tag: 5. No held row and no
--- free one: 4. Else 0: payload plain, level bits of the control byte 5; the pair's row holds the counter.
+-- A row held for key number and sender, and frame counter equal to it: 33; below it: 34. Fewer than 4 bytes left: 2. Wrong tag: 5. No held row
+-- and no free one: 42. Else 0: payload plain, level bits of the control byte 5; the pair's row holds the counter.
 unfoldable pub nwkJudged : NetworkKeys → Claim → Option ℕ → List ℕ → Reaction Heard ℕ
 nwkJudged keys c held b =
     let key : List ℕ = (keyFound keys (numberOf (c .key))) .row .key in

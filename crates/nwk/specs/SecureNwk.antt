@@ -51,7 +51,7 @@ nwkDone s o plain out header = record {
   outgoing = record { next = o .next + 1 };
 }
 
--- Header cut: 2. Frame type 2 or 3, or security bit clear: 7. No key row of the active number: 4. Outgoing counter 2^32-1: 6. Too little room: 8.
+-- Header cut: 2. Frame type 2 or 3, or security bit clear: 7. No key row of the active number: 40. Outgoing counter 2^32-1: 6. Too little room: 8.
 abbrev pub nwkFramed : Nwk → Outgoing → List ℕ → List ℕ → NwkRead → Secured
 nwkFramed s o plain out nwk.Cut = notSecured Cut out o
 nwkFramed s o plain out (nwk.Whole h) =

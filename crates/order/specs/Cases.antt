@@ -77,11 +77,11 @@ pub record Cases : Type 0 where
   pub p3 : nonceOf 0x0011223344556677 5 0x2D ≡ 0x77 ∷ 0x66 ∷ 0x55 ∷ 0x44 ∷ 0x33 ∷ 0x22 ∷ 0x11 ∷ 0x00 ∷ 0x05 ∷ 0x00 ∷ 0x00 ∷ 0x00 ∷ 0x2D ∷ []
   -- pad bytes after 13, 14, 15, 16, 17: 3, 18, 17, 16, 15
   pub p4 : (length (padding 13) ≡ 3) × (length (padding 14) ≡ 18) × (length (padding 15) ≡ 17) × (length (padding 16) ≡ 16) × (length (padding 17) ≡ 15)
-  -- held 5, frame counter 4, 5: 3, 3, whatever else the frame, the keys and the rows are
+  -- held 5, frame counter 4, 5: 34, 33, whatever else the frame, the keys and the rows are
   pub p5 : (s : Nwk) (rows : List CounterRow) (used : ℕ) (b : List ℕ)
-      → (NwkHeard s rows used b 5 4 → numbered ((openNwk s rows used b) .answer) ≡ 3) × (NwkHeard s rows used b 5 5 → numbered ((openNwk s rows used b) .answer) ≡ 3)
-  -- APS known with held 0, counter 0: 4, whatever else the frame and the pairs are
-  pub p6 : (s : Aps) (pairs : Pairs) (b : List ℕ) → ApsHeard s pairs b 0 0 → numbered ((openAps s pairs b) .answer) ≡ 4
+      → (NwkHeard s rows used b 5 4 → numbered ((openNwk s rows used b) .answer) ≡ 34) × (NwkHeard s rows used b 5 5 → numbered ((openNwk s rows used b) .answer) ≡ 33)
+  -- APS known with held 0, counter 0: 33, whatever else the frame and the pairs are
+  pub p6 : (s : Aps) (pairs : Pairs) (b : List ℕ) → ApsHeard s pairs b 0 0 → numbered ((openAps s pairs b) .answer) ≡ 33
   -- active 255, opened under 0: active 0
   pub p7 : (start len : ℕ) → activeAfter 255 0 (Done start len) ≡ 0
   -- active 7, opened under 9: active 7

@@ -54,7 +54,7 @@ claimed a sender at = Claims (record { key = a .key; sender = sender; counter = 
 
 -- ---- NWK
 
--- No sender: 3. No key number: 3. No key row of that number: 4.
+-- No sender: 31. No key number: 32. No key row of that number: 40.
 abbrev pub nwkNamed : NetworkKeys → Auxiliary → ℕ → Sender → Who
 nwkNamed keys a at Absent = refuse SenderAbsent
 nwkNamed keys a at (Address sender) =
@@ -62,7 +62,7 @@ nwkNamed keys a at (Address sender) =
     (cond (not ((keyFound keys (numberOf (a .key))) .found)) (refuse NoNetworkKey)
     (claimed a sender at))
 
--- Auxiliary header cut: 2. Counter 2^32-1: 3.
+-- Auxiliary header cut: 2. Counter 2^32-1: 30.
 abbrev pub nwkAuxiliary : NetworkKeys → ℕ → AuxiliaryRead → Who
 nwkAuxiliary keys at auxiliary.Cut = refuse Cut
 nwkAuxiliary keys at (auxiliary.Whole a) = cond (eqb (a .counter) spent) (refuse CounterSpent) (nwkNamed keys a at (a .sender))
@@ -78,12 +78,12 @@ nwkWho keys b = cond (ltb 1024 (length b)) (refuse Unsupported) (cond (ltb (leng
 
 -- ---- APS
 
--- No sender: 4. Key identifier 1: 3.
+-- No sender: 43. Key identifier 1: 32.
 abbrev pub apsNamed : Auxiliary → ℕ → Sender → Who
 apsNamed a at Absent = refuse DeviceAbsent
 apsNamed a at (Address sender) = cond (isNetwork (a .key)) (refuse KeyNotAllowed) (claimed a sender at)
 
--- Auxiliary header cut: 2. Counter 2^32-1: 3.
+-- Auxiliary header cut: 2. Counter 2^32-1: 30.
 abbrev pub apsAuxiliary : ℕ → AuxiliaryRead → Who
 apsAuxiliary at auxiliary.Cut = refuse Cut
 apsAuxiliary at (auxiliary.Whole a) = cond (eqb (a .counter) spent) (refuse CounterSpent) (apsNamed a at (a .sender))

@@ -25,6 +25,6 @@ case-15 =
 abbrev says : ℕ → ℕ → ℕ → ℕ → Printed
 says k n start len = line (record { frame = k; told = record { number = n; start = start; len = len } })
 
-pub prints-case-15 : lines case-15 ≡ says 1 1 8 1 ∷ says 2 2 0 0 ∷ says 3 4 0 0 ∷ []
+pub prints-case-15 : lines case-15 ≡ says 1 1 8 1 ∷ says 2 2 0 0 ∷ says 3 40 0 0 ∷ []
 unfolding lines linesFrom printed stepped fieldAt acted activeField frameField started field value bit find auxiliaryAt hasSender hasNumber identifierOf nwkOf nwkLength nwkFixed keyFound nwkWho openNwk nwkPlaced
 prints-case-15 = refl

@@ -1,10 +1,17 @@
-// The number that is told of an answer: the class that the Rust knows. Document 01's numbers are these classes; where a number says more than
-// the Rust does, it is led back to its class here and nowhere else.
+// The number that is told of an answer: the class that the Rust knows. Request W-201's numbers say more than the Rust does; they are led back to
+// their classes here and nowhere else.
 pub fn class_of(number: u8) -> u8 {
-    number
+    match number {
+        30 | 31 | 32 | 33 | 34 => 3,
+        40 | 41 | 42 | 43 => 4,
+        _ => number,
+    }
 }
 
 // The Rust's class for a counter that is not above the held one is 3 in NWK and 4 in APS.
 pub fn class_of_aps(number: u8) -> u8 {
-    class_of(number)
+    match number {
+        33 | 34 => 4,
+        _ => class_of(number),
+    }
 }
