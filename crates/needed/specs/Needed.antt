@@ -44,7 +44,7 @@ pub needs-free-rows : ¬ ((d : NwkDesk) (p q : List ℕ)
 needs-free-rows claim =
     let z = claim (start 2 1 both) forth back refl (omega arith) (here refl) (reordered 2 1) in
     let w : saying (Refused TableFull) ≡ saying (Done 22 0) = sym full-forth ∙ z .answers 1 ∙ full-back in
-    let v : _≡_ {A = ℕ} 4 0 = ap saidNumber w in
+    let v : _≡_ {A = ℕ} 42 0 = ap saidNumber w in
     omega arith
 
 -- each pair's frames in their order
@@ -59,7 +59,7 @@ unfolding newKeys any
 needs-order claim =
     let z = claim (start 2 2 copies) forth back refl (omega arith) (here refl) (rw (two-claims keys has-two) (omega arith)) forth-once back-once none-lost none-added in
     let w : saying (Refused CounterRepeated) ≡ saying (Done 22 0) = sym copy-forth ∙ z .answers 1 ∙ copy-back in
-    let v : _≡_ {A = ℕ} 3 0 = ap saidNumber w in
+    let v : _≡_ {A = ℕ} 33 0 = ap saidNumber w in
     omega arith
 
 -- At most two keys. A state with three is refused (7), so this is shown past that check, on `nwkPlaced`: with the keys 1, 2 and 3 and
