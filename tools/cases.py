@@ -4,8 +4,9 @@
     python3 tools/cases.py            write the files
     python3 tools/cases.py --check    say whether they are as this program would write them
 
-Needs Python 3.8 or newer and the package `cryptography` (Debian: python3-cryptography), whose AES and CCM are OpenSSL's. Answers
-come from the gateway of samples.py, hashes from vectors.py; nothing of the project's own code has a part in it.
+Needs Python 3.8 or newer and the package `cryptography` (Debian: python3-cryptography), whose AES and CCM are OpenSSL's. Frames
+are sealed and hashes computed by OpenSSL's ciphers, and the answers of P5, P7, P8 and 11 to 13 come from the gateway of samples.py. Those of P1,
+P2, P3, P6, P9 and P10 are set down from document 01's table. Nothing of the project's own code has a part in it.
 """
 import pathlib
 import sys
