@@ -7,9 +7,9 @@ use native.Mathlib.Omega.{arith}
 use lib.ListN.{length, take, drop, length-append, length-drop}
 use lib.Seq.{take-all, take-length, drop-length, length-take-le, take-at, drop-at, drop-append-add, drop-drop}
 use Rattle.aib.specs.declared.pairs.PairRow.{PairRow}
-use Rattle.frame.specs.Control.{hasNumber, sent}
-use Rattle.frame.specs.ControlLaws.{sent-sender}
-use Rattle.frame.specs.declared.control.KeyIdentifier.{KeyIdentifier}
+use Rattle.control.specs.Control.{hasNumber, sent}
+use Rattle.control.specs.ControlLaws.{sent-sender}
+use Rattle.control.specs.declared.KeyIdentifier.{KeyIdentifier}
 use Rattle.frame.specs.Auxiliary.{auxiliaryOctets}
 use Rattle.frame.specs.AuxiliaryLaws.{octets-length}
 use Rattle.frame.specs.Written.{written}

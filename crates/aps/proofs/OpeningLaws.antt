@@ -21,7 +21,7 @@ use Rattle.aib.specs.declared.pairs.PairRow.{PairRow}
 use Rattle.aib.specs.declared.pairs.Pairs.{Pairs}
 use Rattle.aib.specs.Pairs.{Pair, pairOf, pairRows, answered, pairFound}
 use Rattle.aib.specs.Counters.{inUse, holding, heard, recorded}
-use Rattle.frame.specs.Control.{identifierOf}
+use Rattle.control.specs.Control.{identifierOf}
 use Rattle.protection.specs.declared.claims.Claim.{Claim}
 use Rattle.protection.specs.Keys.{keyFor}
 use Rattle.protection.specs.Heard.{Heard, refused, equals, below}

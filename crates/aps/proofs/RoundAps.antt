@@ -18,10 +18,10 @@ use Rattle.aib.specs.declared.pairs.Pairs.{Pairs}
 use Rattle.aib.specs.declared.search.PairFound.{PairFound}
 use Rattle.aib.specs.Pairs.{Pair, pairRows, usableFound}
 use Rattle.aib.specs.Counters.{inUse, heard}
-use Rattle.frame.specs.Control.{sent, hasNumber}
-use Rattle.frame.specs.ControlLaws.{sent-identifier, sent-sender}
-use Rattle.frame.specs.declared.control.KeyIdentifier.{KeyIdentifier}
-use Rattle.frame.specs.declared.control.KeyIdentifier.the-variants.{Link, Network, Transport, Load}
+use Rattle.control.specs.Control.{sent, hasNumber}
+use Rattle.control.specs.ControlLaws.{sent-identifier, sent-sender}
+use Rattle.control.specs.declared.KeyIdentifier.{KeyIdentifier}
+use Rattle.control.specs.declared.KeyIdentifier.the-variants.{Link, Network, Transport, Load}
 use Rattle.frame.specs.declared.auxiliary.AuxiliaryRead.the-variants as auxiliary
 use Rattle.frame.specs.declared.auxiliary.Sender.the-variants.{Address}
 use Rattle.frame.specs.Auxiliary.{keyUsed, auxiliaryOctets, auxiliaryAt}

@@ -19,9 +19,9 @@ use Rattle.aib.specs.declared.search.PairFound.{PairFound}
 use Rattle.cells.specs.First.{first, atFirst}
 use Rattle.aib.specs.Pairs.{mayUse, answeredRow, usableFound}
 use Rattle.aib.specs.Counters.{inUse, holding, raised, advanced}
-use Rattle.frame.specs.Control.{hasNumber, sent}
-use Rattle.frame.specs.declared.control.KeyIdentifier.{KeyIdentifier}
-use Rattle.frame.specs.declared.control.KeyIdentifier.the-variants.{Link, Transport, Load}
+use Rattle.control.specs.Control.{hasNumber, sent}
+use Rattle.control.specs.declared.KeyIdentifier.{KeyIdentifier}
+use Rattle.control.specs.declared.KeyIdentifier.the-variants.{Link, Transport, Load}
 use Rattle.header.specs.Aps.{apsTaken, apsLength, apsDelivery, isCommand, isSecured}
 use Rattle.protection.specs.Claims.{spent}
 use Rattle.aps.specs.declared.state.Aps.{Aps}

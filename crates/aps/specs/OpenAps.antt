@@ -13,7 +13,7 @@ use Rattle.aib.specs.declared.pairs.PairRow.{PairRow}
 use Rattle.aib.specs.declared.pairs.Pairs.{Pairs}
 use Rattle.aib.specs.Pairs.{Pair, pairRows, trustCenterLinkKey}
 use Rattle.aib.specs.Counters.{inUse, holding, heard}
-use Rattle.frame.specs.Control.{identifierOf}
+use Rattle.control.specs.Control.{identifierOf}
 use Rattle.protection.specs.declared.claims.Claim.{Claim}
 use Rattle.protection.specs.declared.claims.Who.{Who}
 use Rattle.protection.specs.declared.claims.Who.the-variants.{Told, Claims}

@@ -14,9 +14,9 @@ use Rattle.aib.specs.declared.pairs.Pairs.{Pairs}
 use Rattle.cells.specs.First.{first, atFirst}
 use Rattle.aib.specs.Pairs.{mayUse}
 use Rattle.aib.specs.Counters.{inUse, holding, raised}
-use Rattle.frame.specs.Control.{sent}
-use Rattle.frame.specs.declared.control.KeyIdentifier.{KeyIdentifier}
-use Rattle.frame.specs.declared.control.KeyIdentifier.the-variants.{Link, Transport, Load}
+use Rattle.control.specs.Control.{sent}
+use Rattle.control.specs.declared.KeyIdentifier.{KeyIdentifier}
+use Rattle.control.specs.declared.KeyIdentifier.the-variants.{Link, Transport, Load}
 use Rattle.frame.specs.Auxiliary.{auxiliaryOctets}
 use Rattle.header.specs.Aps.{apsTaken, apsLength, isCommand, isSecured}
 use Rattle.aps.specs.declared.state.Aps.{Aps}

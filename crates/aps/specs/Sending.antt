@@ -10,8 +10,8 @@ use Rattle.answer.specs.declared.Outcome.the-variants.{Done, Refused}
 use Rattle.answer.specs.declared.Refusal.the-variants.{Unsupported, Cut, NoPair, CounterSpent, SenderAbsent, NoRoom}
 use Rattle.aib.specs.declared.pairs.PairRow.{PairRow}
 use Rattle.aib.specs.declared.search.PairFound.{PairFound}
-use Rattle.frame.specs.declared.control.KeyIdentifier.{KeyIdentifier}
-use Rattle.frame.specs.declared.control.KeyIdentifier.the-variants.{Link}
+use Rattle.control.specs.declared.KeyIdentifier.{KeyIdentifier}
+use Rattle.control.specs.declared.KeyIdentifier.the-variants.{Link}
 use Rattle.header.specs.Aps.{apsTaken, apsLength, isCommand, isSecured}
 use Rattle.protection.specs.Claims.{spent}
 use Rattle.protection.specs.Protection.{level}

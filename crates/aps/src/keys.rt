@@ -3,7 +3,7 @@ ghost use mathlib.Core.Path.{_≡_};
 ghost use mathlib.Core.List.{[], _∷_};
 ghost use Rattle.primitives.specs.KeyedHash.{keyedHash};
 ghost use Rattle.protection.specs.Keys.{keyFor};
-use frame::KeyIdentifier;
+use control::KeyIdentifier;
 
 fn hashed(link: [u8; 16], octet: u8) -> [u8; 16]
     ensures { λ r. ⌜ r ≡ keyedHash link (octet ∷ []) ⌝ }

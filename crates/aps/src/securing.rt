@@ -4,7 +4,7 @@ ghost use mathlib.Core.Bool.{false};
 ghost use mathlib.Core.List.{_++_};
 ghost use Prim.Native.Nat.{_+_, _≤_};
 ghost use lib.ListN.{length, take, drop};
-ghost use Rattle.frame.specs.Control.{hasNumber, sent};
+ghost use Rattle.control.specs.Control.{hasNumber, sent};
 ghost use Rattle.frame.specs.Auxiliary.{auxiliaryOctets};
 ghost use Rattle.aps.specs.SecureAps.{apsOnAir, secureAps};
 use crate::keys::key_for;
@@ -15,8 +15,8 @@ use crate::state::Aps;
 use aib::PairRow;
 use aib::Pairs;
 use answer::Answer;
-use frame::Control;
-use frame::KeyIdentifier;
+use control::Control;
+use control::KeyIdentifier;
 use header::ApsControl;
 
 pub struct SecuredAps {

@@ -11,7 +11,7 @@ use crate::state::unfit;
 use aib::PairFound;
 use answer::Outcome;
 use answer::Refusal;
-use frame::KeyIdentifier;
+use control::KeyIdentifier;
 use header::ApsControl;
 
 // The key by which a frame is secured, or why it is not.

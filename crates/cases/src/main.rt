@@ -4,8 +4,8 @@
 use aib::PairRow;
 use aib::Pairs;
 use aps::Aps;
-use frame::Control;
-use frame::KeyIdentifier;
+use control::Control;
+use control::KeyIdentifier;
 use libc::STDIN_FILENO;
 use libc::STDOUT_FILENO;
 use nib::CounterRow;

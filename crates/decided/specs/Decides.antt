@@ -44,14 +44,14 @@ use Rattle.ccm.proofs.unseal as ccm-unseal′
 use Rattle.primitives.proofs.hash as primitives-hash′
 use Rattle.primitives.proofs.hash_from as primitives-hash-from′
 use Rattle.primitives.proofs.keyed_hash as primitives-keyed-hash′
-use Rattle.frame.proofs.control.Control.sent as frame-sent′
-use Rattle.frame.proofs.control.Control.level as frame-level′
-use Rattle.frame.proofs.control.Control.tag_length as frame-tag-length′
-use Rattle.frame.proofs.control.Control.filled as frame-filled′
-use Rattle.frame.proofs.control.Control.cleared as frame-cleared′
-use Rattle.frame.proofs.control.Control.key as frame-key′
-use Rattle.frame.proofs.control.Control.has_sender as frame-has-sender′
-use Rattle.frame.proofs.control.Control.has_number as frame-has-number′
+use Rattle.control.proofs.Control.sent as control-sent′
+use Rattle.control.proofs.Control.level as control-level′
+use Rattle.control.proofs.Control.tag_length as control-tag-length′
+use Rattle.control.proofs.Control.filled as control-filled′
+use Rattle.control.proofs.Control.cleared as control-cleared′
+use Rattle.control.proofs.Control.key as control-key′
+use Rattle.control.proofs.Control.has_sender as control-has-sender′
+use Rattle.control.proofs.Control.has_number as control-has-number′
 use Rattle.frame.proofs.auxiliary_length as frame-auxiliary-length′
 use Rattle.frame.proofs.read as frame-read′
 use Rattle.frame.proofs.write as frame-write′
@@ -197,39 +197,41 @@ pub primitives-keyed-hash : Decides primitives-keyed-hash′.ended primitives-ke
 unfolding Decides
 primitives-keyed-hash κs a z z′ ws ws′ p q = let e = p .0 ∙ sym (q .0) in (λ i. record { outcome = e i; value = (p .1 ∙ when-same _ _ e ∙ sym (q .1)) i }, refl)
 
+-- ---- control
+
+pub control-sent : Decides control-sent′.ended control-sent′.Reads.Post
+unfolding Decides
+control-sent κs a z z′ ws ws′ p q = (λ i. record { byte = (p ∙ sym q) i }, refl)
+
+pub control-level : Decides control-level′.ended control-level′.Reads.Post
+unfolding Decides
+control-level κs a z z′ ws ws′ p q = (p ∙ sym q, refl)
+
+pub control-tag-length : Decides control-tag-length′.ended control-tag-length′.Reads.Post
+unfolding Decides
+control-tag-length κs a z z′ ws ws′ p q = (p ∙ sym q, refl)
+
+pub control-filled : Decides control-filled′.ended control-filled′.Reads.Post
+unfolding Decides
+control-filled κs a z z′ ws ws′ p q = (λ i. record { byte = (p ∙ sym q) i }, refl)
+
+pub control-cleared : Decides control-cleared′.ended control-cleared′.Reads.Post
+unfolding Decides
+control-cleared κs a z z′ ws ws′ p q = (λ i. record { byte = (p ∙ sym q) i }, refl)
+
+pub control-key : Decides control-key′.ended control-key′.Reads.Post
+unfolding Decides
+control-key κs a z z′ ws ws′ p q = (p ∙ sym q, refl)
+
+pub control-has-sender : Decides control-has-sender′.ended control-has-sender′.Reads.Post
+unfolding Decides
+control-has-sender κs a z z′ ws ws′ p q = (p ∙ sym q, refl)
+
+pub control-has-number : Decides control-has-number′.ended control-has-number′.Reads.Post
+unfolding Decides
+control-has-number κs a z z′ ws ws′ p q = (p ∙ sym q, refl)
+
 -- ---- frame
-
-pub frame-sent : Decides frame-sent′.ended frame-sent′.Reads.Post
-unfolding Decides
-frame-sent κs a z z′ ws ws′ p q = (λ i. record { byte = (p ∙ sym q) i }, refl)
-
-pub frame-level : Decides frame-level′.ended frame-level′.Reads.Post
-unfolding Decides
-frame-level κs a z z′ ws ws′ p q = (p ∙ sym q, refl)
-
-pub frame-tag-length : Decides frame-tag-length′.ended frame-tag-length′.Reads.Post
-unfolding Decides
-frame-tag-length κs a z z′ ws ws′ p q = (p ∙ sym q, refl)
-
-pub frame-filled : Decides frame-filled′.ended frame-filled′.Reads.Post
-unfolding Decides
-frame-filled κs a z z′ ws ws′ p q = (λ i. record { byte = (p ∙ sym q) i }, refl)
-
-pub frame-cleared : Decides frame-cleared′.ended frame-cleared′.Reads.Post
-unfolding Decides
-frame-cleared κs a z z′ ws ws′ p q = (λ i. record { byte = (p ∙ sym q) i }, refl)
-
-pub frame-key : Decides frame-key′.ended frame-key′.Reads.Post
-unfolding Decides
-frame-key κs a z z′ ws ws′ p q = (p ∙ sym q, refl)
-
-pub frame-has-sender : Decides frame-has-sender′.ended frame-has-sender′.Reads.Post
-unfolding Decides
-frame-has-sender κs a z z′ ws ws′ p q = (p ∙ sym q, refl)
-
-pub frame-has-number : Decides frame-has-number′.ended frame-has-number′.Reads.Post
-unfolding Decides
-frame-has-number κs a z z′ ws ws′ p q = (p ∙ sym q, refl)
 
 pub frame-auxiliary-length : Decides frame-auxiliary-length′.ended frame-auxiliary-length′.Reads.Post
 unfolding Decides

@@ -6,9 +6,9 @@ use Prim.Native.Nat.{ℕ, _+_}
 use lib.Dec.{leb}
 use lib.ListN.{length, getD}
 use Rattle.laws.specs.Numbers.{field, low}
-use Rattle.frame.specs.Control.{identifierOf, hasSender, hasNumber}
-use Rattle.frame.specs.declared.control.KeyIdentifier.{KeyIdentifier}
-use Rattle.frame.specs.declared.control.KeyIdentifier.the-variants as identifier
+use Rattle.control.specs.Control.{identifierOf, hasSender, hasNumber}
+use Rattle.control.specs.declared.KeyIdentifier.{KeyIdentifier}
+use Rattle.control.specs.declared.KeyIdentifier.the-variants as identifier
 use Rattle.frame.specs.declared.auxiliary.Sender.{Sender}
 use Rattle.frame.specs.declared.auxiliary.Sender.the-variants.{Address, Absent}
 use Rattle.frame.specs.declared.auxiliary.KeyUsed.{KeyUsed}

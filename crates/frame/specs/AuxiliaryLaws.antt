@@ -9,13 +9,13 @@ use lib.ListN.{length, take, drop, getD, set, length-append}
 use lib.Seq.{getD-at, length-take-le}
 use Rattle.laws.specs.Numbers.{low, field}
 use Rattle.laws.specs.NumberLaws.{low-length, field-low}
-use Rattle.frame.specs.Control.{filled, identifierOf, hasSender, hasNumber}
-use Rattle.frame.specs.ControlLaws.{filled-sender, filled-number, isNetwork, number-of-network}
+use Rattle.control.specs.Control.{filled, identifierOf, hasSender, hasNumber}
+use Rattle.control.specs.ControlLaws.{filled-sender, filled-number, isNetwork, number-of-network}
 use Rattle.frame.specs.Auxiliary.{senderLength, numberLength, auxiliaryLength, senderIf, keyUsed, fields, fieldsAt, auxiliaryAt, senderOctets, numberOctets, auxiliaryOctets}
 use Rattle.frame.specs.Written.{written}
 use Rattle.frame.specs.WrittenLaws.{put}
-use Rattle.frame.specs.declared.control.KeyIdentifier.{KeyIdentifier}
-use Rattle.frame.specs.declared.control.KeyIdentifier.the-variants as identifier
+use Rattle.control.specs.declared.KeyIdentifier.{KeyIdentifier}
+use Rattle.control.specs.declared.KeyIdentifier.the-variants as identifier
 use Rattle.frame.specs.declared.auxiliary.Sender.the-variants.{Address}
 use Rattle.frame.specs.declared.auxiliary.KeyUsed.the-variants as used
 use Rattle.frame.specs.declared.auxiliary.AuxiliaryRead.the-variants.{Whole, Cut}

@@ -2,9 +2,9 @@
 use mathlib.Core.Path.{_≡_, refl}
 use mathlib.Core.List.{[], _∷_}
 use Rattle.laws.specs.Numbers.{low}
-use Rattle.frame.specs.Control.{filled, sent}
+use Rattle.control.specs.Control.{filled, sent}
 use Rattle.frame.specs.Nonce.{nonceOf}
-use Rattle.frame.specs.declared.control.KeyIdentifier.the-variants.{Link, Network, Transport, Load}
+use Rattle.control.specs.declared.KeyIdentifier.the-variants.{Link, Network, Transport, Load}
 
 -- NWK control sent, filled
 pub p1 : (sent Network ≡ 0x28) × (filled (sent Network) 5 ≡ 0x2D)

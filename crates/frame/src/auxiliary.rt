@@ -4,15 +4,15 @@ ghost use Prim.Native.Nat.{_+_, _≤_};
 ghost use lib.ListN.{length, getD};
 ghost use lib.Seq.{sets};
 ghost use Rattle.laws.specs.Numbers.{field};
-ghost use Rattle.frame.specs.Control.{hasSender, identifierOf};
+ghost use Rattle.control.specs.Control.{hasSender, identifierOf};
 ghost use Rattle.frame.specs.Auxiliary.{senderLength, numberLength, auxiliaryLength, senderIf, keyUsed, auxiliaryAt, senderOctets, numberOctets, auxiliaryOctets};
 ghost use Rattle.frame.specs.Written.{written, outcomeOf};
-use crate::control::Control;
-use crate::control::KeyIdentifier;
 use crate::octets::number_at;
 use crate::octets::put;
 use answer::Outcome;
 use answer::Refusal;
+use control::Control;
+use control::KeyIdentifier;
 
 pub enum Sender {
     Address(u64),

@@ -1,6 +1,5 @@
-// The security control byte, the auxiliary header and the nonce (ZB 4.5.1, 4.5.2.2; document 01, Layouts).
+// The auxiliary header and the nonce (ZB 4.5.1, 4.5.2.2; document 01, Layouts).
 mod auxiliary;
-mod control;
 mod nonces;
 mod octets;
 
@@ -11,7 +10,5 @@ pub use auxiliary::Sender;
 pub use auxiliary::auxiliary_length;
 pub use auxiliary::read;
 pub use auxiliary::write;
-pub use control::Control;
-pub use control::KeyIdentifier;
 pub use nonces::nonce;
 pub use octets::number_at;

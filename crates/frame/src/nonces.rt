@@ -1,8 +1,8 @@
 // The nonce of a frame (ZB 4.5.2.2).
 ghost use mathlib.Core.Path.{_≡_};
 ghost use Rattle.frame.specs.Nonce.{nonceOf};
-use crate::control::Control;
 use crate::octets::put;
+use control::Control;
 
 // The control byte goes in as it is given: the caller has filled the level in.
 pub fn nonce(sender: u64, counter: u32, control: Control) -> [u8; 13]

@@ -15,7 +15,7 @@ use Rattle.ccm.specs.Ccm.{vouched, vouchedFrom, tagFrom, chain, counted, head, 
 use Rattle.ccm.specs.Frame.{vouchedFrame}
 use Rattle.frame.specs.Nonce.{nonceOf}
 use Rattle.frame.specs.Auxiliary.{auxiliaryAt}
-use Rattle.frame.specs.Control.{hasSender, hasNumber, identifierOf}
+use Rattle.control.specs.Control.{hasSender, hasNumber, identifierOf}
 use Rattle.frame.specs.declared.auxiliary.KeyUsed.the-variants as used
 use Rattle.header.specs.Nwk.{nwkOf, nwkLength, nwkFixed}
 use Rattle.answer.specs.declared.Answer.the-variants.{Done}

@@ -15,8 +15,8 @@ use Rattle.answer.specs.declared.Answer.the-variants.{Done}
 use Rattle.answer.specs.declared.Refusal.{Refusal}
 use Rattle.answer.specs.declared.Refusal.the-variants.{TableFull}
 use Rattle.cells.specs.Rows.{become, find, put, room, settle}
-use Rattle.frame.specs.Control.{sent, hasSender, hasNumber, identifierOf}
-use Rattle.frame.specs.declared.control.KeyIdentifier.the-variants.{Network}
+use Rattle.control.specs.Control.{sent, hasSender, hasNumber, identifierOf}
+use Rattle.control.specs.declared.KeyIdentifier.the-variants.{Network}
 use Rattle.frame.specs.declared.auxiliary.AuxiliaryRead.the-variants as auxiliary
 use Rattle.frame.specs.declared.auxiliary.Sender.the-variants.{Address}
 use Rattle.frame.specs.declared.auxiliary.KeyUsed.the-variants as used

@@ -7,8 +7,8 @@ use lib.ListN.{length, take, drop, length-append, length-drop}
 use lib.Seq.{length-take-le, take-at, drop-at, take-length, drop-drop}
 use Rattle.laws.specs.Numbers.{bit}
 use Rattle.laws.specs.Parts.{part-rest, put-two}
-use Rattle.frame.specs.Control.{sent, hasSender, hasNumber}
-use Rattle.frame.specs.declared.control.KeyIdentifier.the-variants.{Network}
+use Rattle.control.specs.Control.{sent, hasSender, hasNumber}
+use Rattle.control.specs.declared.KeyIdentifier.the-variants.{Network}
 use Rattle.frame.specs.Auxiliary.{auxiliaryOctets}
 use Rattle.frame.specs.AuxiliaryLaws.{octets-length}
 use Rattle.nib.specs.declared.keys.KeyFound.{KeyFound}

@@ -8,8 +8,8 @@ use Rattle.answer.specs.declared.Answer.{Answer}
 use Rattle.answer.specs.declared.Answer.the-variants.{Done, Refused}
 use Rattle.answer.specs.declared.Refusal.{Refusal}
 use Rattle.answer.specs.declared.Refusal.the-variants.{Unsupported, Cut, NoNetworkKey, CounterExhausted, NoRoom}
-use Rattle.frame.specs.Control.{sent}
-use Rattle.frame.specs.declared.control.KeyIdentifier.the-variants.{Network}
+use Rattle.control.specs.Control.{sent}
+use Rattle.control.specs.declared.KeyIdentifier.the-variants.{Network}
 use Rattle.frame.specs.Auxiliary.{auxiliaryOctets}
 use Rattle.header.specs.declared.network.NwkRead.{NwkRead}
 use Rattle.header.specs.declared.network.NwkRead.the-variants as nwk

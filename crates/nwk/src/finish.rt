@@ -5,8 +5,8 @@ ghost use Prim.Native.Nat.{_+_, _≤_};
 ghost use lib.ListN.{length, drop};
 ghost use Rattle.nwk.specs.SecureNwk.{nwkAdded, nwkHeaders, nwkOnAir};
 use crate::state::Nwk;
-use frame::Control;
-use frame::KeyIdentifier;
+use control::Control;
+use control::KeyIdentifier;
 
 // The length of the auxiliary header that NWK sends, with sender and key number.
 pub const AUXILIARY: usize = 14;

@@ -17,7 +17,7 @@ use Rattle.aib.specs.declared.pairs.Pairs.{Pairs}
 use Rattle.aib.specs.Counters.{inUse}
 use Rattle.cells.specs.First.{first}
 use Rattle.aib.specs.Pairs.{Pair, pairRows, mayUse}
-use Rattle.frame.specs.declared.control.KeyIdentifier.{KeyIdentifier}
+use Rattle.control.specs.declared.KeyIdentifier.{KeyIdentifier}
 use Rattle.header.specs.Aps.{apsTaken, apsLength, isCommand, isSecured}
 use Rattle.protection.specs.declared.claims.Claim.{Claim}
 use Rattle.protection.specs.declared.claims.Who.{Who}

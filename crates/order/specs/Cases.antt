@@ -10,8 +10,8 @@ use Rattle.answer.specs.declared.Answer.{Answer}
 use Rattle.answer.specs.declared.Answer.the-variants.{Done}
 use Rattle.answer.specs.Numbers.{outcomeNumber, told}
 use Rattle.cells.specs.Rows.{find, settle}
-use Rattle.frame.specs.declared.control.KeyIdentifier.the-variants.{Link, Network, Transport, Load}
-use Rattle.frame.specs.Control.{filled, sent}
+use Rattle.control.specs.declared.KeyIdentifier.the-variants.{Link, Network, Transport, Load}
+use Rattle.control.specs.Control.{filled, sent}
 use Rattle.frame.specs.Nonce.{nonceOf}
 use Rattle.frame.specs.Cases as frame
 use Rattle.header.specs.declared.network.NwkHeader.{NwkHeader}

@@ -16,7 +16,7 @@ use Rattle.aes.specs.Schedule.{keyExpansion}
 use Rattle.aes.specs.Words.{keyBytes, cipherWords}
 use Rattle.ccm.specs.Ccm.{sealed}
 use Rattle.ccm.specs.Frame.{tagTaken, fitting, unsealing, sealedFrame, openedFrame}
-use Rattle.frame.specs.Control.{filled}
+use Rattle.control.specs.Control.{filled}
 use Rattle.frame.specs.Nonce.{nonceOf}
 use Rattle.protection.specs.Protection.{vouches, openedOctets, securedOctets, under}
 

@@ -8,7 +8,7 @@ use Rattle.aes.specs.Cipher.{cipher}
 use Rattle.aes.specs.Schedule.{keyExpansion}
 use Rattle.ccm.specs.Ccm.{sealed}
 use Rattle.ccm.specs.Frame.{openedFrame, vouchedFrame}
-use Rattle.frame.specs.Control.{filled}
+use Rattle.control.specs.Control.{filled}
 use Rattle.frame.specs.Nonce.{nonceOf}
 
 -- level 5, and the length of its tag

@@ -6,7 +6,7 @@ ghost use Prim.Native.Nat.{_+_, _≤_, _<_};
 ghost use lib.ListN.{length, take, drop};
 ghost use Rattle.protection.specs.Protection.{vouches, openedOctets, securedOctets};
 use answer::Outcome;
-use frame::Control;
+use control::Control;
 
 // The level of document 01, and the length of its tag.
 const LEVEL: u8 = 5;

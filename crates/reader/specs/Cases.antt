@@ -5,7 +5,7 @@ use Prim.Native.Nat.{ℕ}
 use Rattle.laws.specs.Numbers.{field, value, bit}
 use Rattle.cells.specs.Rows.{find}
 use Rattle.frame.specs.Auxiliary.{auxiliaryAt}
-use Rattle.frame.specs.Control.{hasSender, hasNumber, identifierOf}
+use Rattle.control.specs.Control.{hasSender, hasNumber, identifierOf}
 use Rattle.header.specs.Nwk.{nwkOf, nwkLength, nwkFixed}
 use Rattle.nib.specs.Keys.{keyFound}
 use Rattle.protection.specs.Claims.{nwkWho}

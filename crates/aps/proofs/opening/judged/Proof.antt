@@ -1,7 +1,7 @@
 -- `aps::opening::judged` meets its contract. Assumes nothing.
 use mathlib.Core.Path.{_≡_, sym, ap, _∙_}
 use borrow.Author.Needs.{needs}
-use Rattle.frame.specs.Control.{identifierOf}
+use Rattle.control.specs.Control.{identifierOf}
 use Rattle.protection.specs.Keys.{keyFor}
 use Rattle.protection.specs.Heard.{Heard}
 use Rattle.aps.specs.OpenAps.{linkKey}

@@ -5,7 +5,7 @@ use native.Mathlib.Omega.{arith}
 use lib.Seq.{length-take-le}
 use borrow.Author.Needs.{needs}
 use Rattle.frame.specs.Written.{written}
-use Rattle.frame.specs.Control.{sent}
+use Rattle.control.specs.Control.{sent}
 use Rattle.frame.specs.Auxiliary.{auxiliaryOctets}
 use Rattle.aps.proofs.LayoutLaws.{thirteen, laid}
 use Rattle.aps.proofs.securing.lay.Statement.{statement}

@@ -1,7 +1,7 @@
 -- `aps::securing::put` meets its contract. Assumes nothing.
 use mathlib.Core.Path.{refl}
 use borrow.Author.Needs.{needs}
-use Rattle.frame.specs.Control.{sent}
+use Rattle.control.specs.Control.{sent}
 use Rattle.frame.specs.Auxiliary.{auxiliaryOctets}
 use Rattle.aps.proofs.LayoutLaws.{thirteen, finished}
 use Rattle.aps.proofs.securing.put.Statement.{statement}

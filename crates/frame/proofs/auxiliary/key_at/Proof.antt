@@ -3,9 +3,9 @@ use mathlib.Core.Path.{_≡_, sym, ap, _∙_}
 use mathlib.Core.Bool.{true}
 use native.Mathlib.Omega.{arith}
 use borrow.Author.Needs.{needs}
-use Rattle.frame.specs.Control.{identifierOf, hasNumber}
-use Rattle.frame.specs.ControlLaws.{isNetwork, number-of-network}
-use Rattle.frame.specs.declared.control.KeyIdentifier.the-variants.{Network}
+use Rattle.control.specs.Control.{identifierOf, hasNumber}
+use Rattle.control.specs.ControlLaws.{isNetwork, number-of-network}
+use Rattle.control.specs.declared.KeyIdentifier.the-variants.{Network}
 use Rattle.frame.proofs.auxiliary.key_at.Statement.{statement}
 use Rattle.frame.proofs.auxiliary.key_at.Tie as tie
 

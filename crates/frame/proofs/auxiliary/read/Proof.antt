@@ -4,7 +4,7 @@ use Prim.Native.Nat.{ℕ, _+_}
 use native.Mathlib.Omega.{arith}
 use borrow.Author.Needs.{needs}
 use lib.ListN.{getD}
-use Rattle.frame.specs.Control.{identifierOf}
+use Rattle.control.specs.Control.{identifierOf}
 use Rattle.frame.specs.Auxiliary.{keyUsed}
 use Rattle.frame.specs.AuxiliaryLaws.{read-cut, read-whole}
 use Rattle.frame.specs.declared.auxiliary.AuxiliaryRead.the-variants.{Whole}

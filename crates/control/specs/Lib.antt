@@ -1,0 +1,3 @@
+-- Definitions first, then the laws about them.
+pub mod Control
+pub mod ControlLaws
