@@ -5,33 +5,33 @@ ghost use Prim.Native.Nat.{_%_};
 ghost use Rattle.aes.specs.Schedule.{xorWord};
 ghost use Rattle.aes.specs.Words.{bytes, four};
 
-pub fn wide(x: u8) -> u32
+pub(crate) fn wide(x: u8) -> u32
     ensures { λ r. ⌜ r ≡ x ⌝ }
 {
     x as u32
 }
 
-pub fn byte(x: u32) -> u8
+pub(crate) fn byte(x: u32) -> u8
     ensures { λ r. ⌜ r ≡ x % 256 ⌝ }
 {
     (x % 256) as u8
 }
 
-pub fn joined(a: u8, b: u8, c: u8, d: u8) -> u32
+pub(crate) fn joined(a: u8, b: u8, c: u8, d: u8) -> u32
     ensures { λ r. ⌜ bytes r ≡ a ∷ b ∷ c ∷ d ∷ [] ⌝ }
 {
     wide(a) + wide(b) * 256 + wide(c) * 65536 + wide(d) * 16777216
 }
 
 // Two words, added byte by byte.
-pub fn xored(a: u32, b: u32) -> u32
+pub(crate) fn xored(a: u32, b: u32) -> u32
     ensures { λ r. ⌜ bytes r ≡ xorWord (bytes a) (bytes b) ⌝ }
 {
     a ^ b
 }
 
 // The sixteen bytes of four columns.
-pub fn listed(a: u32, b: u32, c: u32, d: u32) -> [u8; 16]
+pub(crate) fn listed(a: u32, b: u32, c: u32, d: u32) -> [u8; 16]
     ensures { λ r. ⌜ r ≡ four a b c d ⌝ }
 {
     [

@@ -34,6 +34,7 @@ pub const TRUST_CENTER_LINK_KEY: [u8; 16] = [
     0x39,
 ];
 
+#[repr(C)]
 pub struct PairRow {
     pub device: u64,
     pub attribute: u8,
@@ -44,6 +45,7 @@ pub struct PairRow {
 }
 
 // Of the rows the first `used` are in use.
+#[repr(C)]
 pub struct Pairs {
     pub rows: [PairRow; 16],
     pub used: usize,

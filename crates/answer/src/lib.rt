@@ -52,6 +52,7 @@ pub enum Answer {
 }
 
 // The answer's number, and the start and length that go with it.
+#[repr(C)]
 pub struct Told {
     pub number: u8,
     pub start: usize,

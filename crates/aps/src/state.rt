@@ -4,6 +4,7 @@ ghost use mathlib.Core.Bool.{not, _||_};
 ghost use lib.Dec.{eqb, ltb};
 
 // The level and the gateway's own address.
+#[repr(C)]
 pub struct Aps {
     pub level: u8,
     pub own: u64,

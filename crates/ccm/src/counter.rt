@@ -7,7 +7,7 @@ ghost use Rattle.ccm.specs.Ccm.{block, counted};
 use crate::octets::xor_into;
 
 // The block of flags, nonce and a two-byte number: B_0 and A_i.
-pub fn make_block(flags: u8, nonce: [u8; 13], k: usize) -> [u8; 16]
+pub(crate) fn make_block(flags: u8, nonce: [u8; 13], k: usize) -> [u8; 16]
     ensures { λ r. ⌜ r ≡ block flags nonce k ⌝ }
 {
     [
@@ -39,7 +39,7 @@ fn key_block(keys: &[u32; 44], nonce: [u8; 13], i: usize, table: &[u64; 256]) ->
 }
 
 // s XORed in place with S_1, S_2, ..: enciphers, and deciphers.
-pub fn count_through(keys: &[u32; 44], nonce: [u8; 13], s: &mut [u8], table: &[u64; 256])
+pub(crate) fn count_through(keys: &[u32; 44], nonce: [u8; 13], s: &mut [u8], table: &[u64; 256])
     requires { ⌜ IsRound (now table) ⌝ }
     ensures { λ _. ⌜ now (s .exit) ≡ counted (cipherWords (now (keys .entry))) nonce 1 (now (s .entry)) ⌝ }
 {
@@ -54,7 +54,7 @@ pub fn count_through(keys: &[u32; 44], nonce: [u8; 13], s: &mut [u8], table: &[u
 }
 
 // The MAC x under S_0: its first bytes are the tag.
-pub fn tag_of(keys: &[u32; 44], nonce: [u8; 13], x: [u8; 16], table: &[u64; 256]) -> [u8; 16]
+pub(crate) fn tag_of(keys: &[u32; 44], nonce: [u8; 13], x: [u8; 16], table: &[u64; 256]) -> [u8; 16]
     requires { ⌜ IsRound (now table) ⌝ }
     ensures { λ r. ⌜ r ≡ x ⊕ cipherWords (now (keys .entry)) (block 1 nonce 0) ⌝ }
 {

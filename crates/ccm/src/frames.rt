@@ -53,7 +53,14 @@ fn seal_with(
 }
 
 // The same, with nothing asked of a table: it is named here, once a frame.
-pub fn seal_frame(keys: &[u32; 44], nonce: [u8; 13], m: usize, out: &mut [u8], at: usize, n: usize)
+pub(crate) fn seal_frame(
+    keys: &[u32; 44],
+    nonce: [u8; 13],
+    m: usize,
+    out: &mut [u8],
+    at: usize,
+    n: usize,
+)
     requires { ⌜ (m ≤ 16) × (at + n + m ≤ length (now out)) ⌝ }
     ensures { λ _. ⌜ now (out .exit) ≡ sealedFrame (cipherWords (now (keys .entry))) m nonce at n (now (out .entry)) ⌝ }
 {
@@ -111,7 +118,7 @@ fn open_with(
 }
 
 // The same, with nothing asked of a table.
-pub fn open_frame(
+pub(crate) fn open_frame(
     keys: &[u32; 44],
     nonce: [u8; 13],
     m: usize,

@@ -23,7 +23,7 @@ fn mac_block(keys: &[u32; 44], x: [u8; 16], s: &[u8], table: &[u64; 256]) -> [u8
 }
 
 // From x over the blocks of s, the last filled up with zeros.
-pub fn mac_part(keys: &[u32; 44], x: [u8; 16], s: &[u8], table: &[u64; 256]) -> [u8; 16]
+pub(crate) fn mac_part(keys: &[u32; 44], x: [u8; 16], s: &[u8], table: &[u64; 256]) -> [u8; 16]
     requires { ⌜ IsRound (now table) ⌝ }
     ensures { λ r. ⌜ r ≡ chain (cipherWords (now (keys .entry))) x (blocks (now (s .entry))) ⌝ }
 {
@@ -62,7 +62,7 @@ fn first_block(keys: &[u32; 44], x: [u8; 16], a: &[u8], table: &[u64; 256]) -> [
 }
 
 // Over B_0 and the associated data a, before a payload of l bytes.
-pub fn mac_head(
+pub(crate) fn mac_head(
     keys: &[u32; 44],
     nonce: [u8; 13],
     m: usize,

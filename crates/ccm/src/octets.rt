@@ -5,7 +5,7 @@ ghost use lib.ListN.{length};
 ghost use Rattle.laws.specs.Octets.{_⊕_, same};
 
 // The smaller of two lengths.
-pub fn least(a: usize, b: usize) -> usize
+pub(crate) fn least(a: usize, b: usize) -> usize
     ensures { λ r. ⌜ r ≡ min a b ⌝ }
 {
     if a < b { a } else { b }
@@ -24,7 +24,7 @@ pub fn xor_into(dst: &mut [u8], src: &[u8])
 }
 
 // Whether two tags of one length are the same: the differences of all bytes are combined, and looked at once, at the end.
-pub fn same_tag(a: &[u8], b: &[u8]) -> bool
+pub(crate) fn same_tag(a: &[u8], b: &[u8]) -> bool
     requires { ⌜ length (now a) ≡ length (now b) ⌝ }
     ensures { λ r. ⌜ r ≡ same (now (a .entry)) (now (b .entry)) ⌝ }
 {

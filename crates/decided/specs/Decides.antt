@@ -18,15 +18,15 @@ use contract.Notation.{connectives}
 use denote.Triple.Entry.{Args, Res}
 use denote.Triple.Clauses.{Ended, Lasts, AtExit, atExit, Clauses}
 use Rattle.answer.specs.declared.Outcome.{Outcome}
-use Rattle.answer.specs.Numbers.{whenDone}
+use Rattle.answer.specs.Numbers.{whenDone, told}
 use Rattle.nib.specs.Counters.{pair, left, heldFor, recorded, forgotten}
 use Rattle.nib.specs.CounterLaws as counters
 use Rattle.nib.specs.Sending.{took, taken}
 use Rattle.nib.specs.SendingLaws as sending
-use Rattle.nwk.specs.Halves.{opened}
+use Rattle.nwk.specs.Leaves.{opened, secured}
 use Rattle.nwk.specs.OpenNwk.{openNwk}
-use Rattle.nwk.specs.Ready.{secured}
 use Rattle.nwk.specs.SecureNwk.{secureNwk}
+use Rattle.pouchkettle.specs.Told.{toldNwk, toldRows}
 use Rattle.decided.specs.KeyWords.{Words, same-words}
 use Rattle.answer.proofs.number_of as answer-number-of′
 use Rattle.answer.proofs.outcome_number as answer-outcome-number′
@@ -93,6 +93,12 @@ use Rattle.nwk.proofs.open_with as nwk-open-with′
 use Rattle.nwk.proofs.secure_with as nwk-secure-with′
 use Rattle.aps.proofs.open_aps as aps-open-aps′
 use Rattle.aps.proofs.secure_aps as aps-secure-aps′
+use Rattle.pouchkettle.proofs.pouchkettle_open_nwk as pouchkettle-open-nwk′
+use Rattle.pouchkettle.proofs.pouchkettle_secure_nwk as pouchkettle-secure-nwk′
+use Rattle.pouchkettle.proofs.pouchkettle_forget as pouchkettle-forget′
+use Rattle.pouchkettle.proofs.pouchkettle_reset as pouchkettle-reset′
+use Rattle.pouchkettle.proofs.pouchkettle_open_aps as pouchkettle-open-aps′
+use Rattle.pouchkettle.proofs.pouchkettle_secure_aps as pouchkettle-secure-aps′
 use Rattle.reader.proofs.field_at as reader-field-at′
 use Rattle.reader.proofs.start as reader-start′
 use Rattle.reader.proofs.next as reader-next′
@@ -456,6 +462,59 @@ aps-open-aps κs a z z′ ws ws′ p q = (λ i. record { answer = (p .0 ∙ sym 
 pub aps-secure-aps : Decides aps-secure-aps′.ended aps-secure-aps′.Reads.Post
 unfolding Decides
 aps-secure-aps κs a z z′ ws ws′ p q = (λ i. record { answer = (p .0 ∙ sym (q .0)) i; pairs = (p .1 ∙ sym (q .1)) i }, λ i. (tt, (tt, (tt, (tt, (tt, ((p .2 ∙ sym (q .2)) i, tt)))))))
+
+-- ---- pouchkettle
+
+abbrev pouchkettle-open-nwk-promise : Promise pouchkettle-open-nwk′.ended
+pouchkettle-open-nwk-promise κs a z e =
+    let o = openNwk (a .0) (a .1 .0 .now) (a .1 .1 .0) (a .1 .1 .1 .0 .now) in
+    (z ≡ toldNwk o) × (e .1 .0 .now ≡ o .rows) × (e .1 .1 .1 .0 .now ≡ o .frame)
+
+pub pouchkettle-open-nwk-says : Says pouchkettle-open-nwk′.ended pouchkettle-open-nwk-promise (λ M. pouchkettle-open-nwk′.clauses {M = M})
+unfolding Says
+pouchkettle-open-nwk-says M 𝓤 H A mem run κs a g z e = refl
+
+pub pouchkettle-open-nwk : Decides pouchkettle-open-nwk′.ended pouchkettle-open-nwk-promise
+unfolding Decides
+pouchkettle-open-nwk κs a z z′ ws ws′ p q = (p .0 ∙ sym (q .0), λ i. (tt, ((p .1 ∙ sym (q .1)) i, (tt, ((p .2 ∙ sym (q .2)) i, tt)))))
+
+abbrev pouchkettle-secure-nwk-promise : Promise pouchkettle-secure-nwk′.ended
+pouchkettle-secure-nwk-promise κs a z e =
+    let s = secureNwk (a .0) (a .1 .0 .now) (a .1 .1 .0 .now) (a .1 .1 .1 .0 .now) in
+    (z ≡ told (s .answer)) × (e .1 .0 .now ≡ s .outgoing) × (e .1 .1 .1 .0 .now ≡ s .out)
+
+pub pouchkettle-secure-nwk-says : Says pouchkettle-secure-nwk′.ended pouchkettle-secure-nwk-promise (λ M. pouchkettle-secure-nwk′.clauses {M = M})
+unfolding Says
+pouchkettle-secure-nwk-says M 𝓤 H A mem run κs a g z e = refl
+
+pub pouchkettle-secure-nwk : Decides pouchkettle-secure-nwk′.ended pouchkettle-secure-nwk-promise
+unfolding Decides
+pouchkettle-secure-nwk κs a z z′ ws ws′ p q = (p .0 ∙ sym (q .0), λ i. (tt, ((p .1 ∙ sym (q .1)) i, (tt, ((p .2 ∙ sym (q .2)) i, tt)))))
+
+abbrev pouchkettle-forget-promise : Promise pouchkettle-forget′.ended
+pouchkettle-forget-promise κs a z e =
+    let f = forgotten (a .0 .now) (a .1 .0) (a .1 .1 .0) in
+    (z ≡ toldRows f) × (e .0 .now ≡ f .rows)
+
+pub pouchkettle-forget-says : Says pouchkettle-forget′.ended pouchkettle-forget-promise (λ M. pouchkettle-forget′.clauses {M = M})
+unfolding Says
+pouchkettle-forget-says M 𝓤 H A mem run κs a g z e = refl
+
+pub pouchkettle-forget : Decides pouchkettle-forget′.ended pouchkettle-forget-promise
+unfolding Decides
+pouchkettle-forget κs a z z′ ws ws′ p q = (p .0 ∙ sym (q .0), λ i. ((p .1 ∙ sym (q .1)) i, (tt, (tt, tt))))
+
+pub pouchkettle-reset : Decides pouchkettle-reset′.ended pouchkettle-reset′.Reads.Post
+unfolding Decides
+pouchkettle-reset κs a z z′ ws ws′ p q = (p ∙ sym q, refl)
+
+pub pouchkettle-open-aps : Decides pouchkettle-open-aps′.ended pouchkettle-open-aps′.Reads.Post
+unfolding Decides
+pouchkettle-open-aps κs a z z′ ws ws′ p q = (λ i. record { told = (p .0 ∙ sym (q .0)) i; pairs = (p .1 ∙ sym (q .1)) i }, λ i. (tt, (tt, ((p .2 ∙ sym (q .2)) i, tt))))
+
+pub pouchkettle-secure-aps : Decides pouchkettle-secure-aps′.ended pouchkettle-secure-aps′.Reads.Post
+unfolding Decides
+pouchkettle-secure-aps κs a z z′ ws ws′ p q = (λ i. record { told = (p .0 ∙ sym (q .0)) i; pairs = (p .1 ∙ sym (q .1)) i }, λ i. (tt, (tt, (tt, (tt, (tt, ((p .2 ∙ sym (q .2)) i, tt)))))))
 
 -- ---- reader
 

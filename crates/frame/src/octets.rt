@@ -20,7 +20,7 @@ pub fn number_at(s: &[u8], at: usize, count: usize) -> u64
 }
 
 // Puts the `count` low octets of a number to s, from `at` on.
-pub fn put(s: &mut [u8], at: usize, count: usize, number: u64)
+pub(crate) fn put(s: &mut [u8], at: usize, count: usize, number: u64)
     requires { ⌜ at + count ≤ length (now s) ⌝ }
     ensures { λ r. ⌜ now (s .exit) ≡ sets (now (s .entry)) at (low count number) ⌝ }
 {

@@ -4,7 +4,7 @@ ghost use mathlib.Core.Bool.{cond};
 ghost use Prim.Native.Nat.{_<_};
 ghost use Rattle.laws.specs.Numbers.{bit};
 
-pub fn is_set(bits: u16, place: u16) -> bool
+pub(crate) fn is_set(bits: u16, place: u16) -> bool
     requires { ⌜ place < 16 ⌝ }
     ensures { λ r. ⌜ r ≡ bit place bits ⌝ }
 {
@@ -12,7 +12,7 @@ pub fn is_set(bits: u16, place: u16) -> bool
 }
 
 // How many octets a field takes that is there only if flagged.
-pub fn length_if(bits: u16, place: u16, length: usize) -> usize
+pub(crate) fn length_if(bits: u16, place: u16, length: usize) -> usize
     requires { ⌜ place < 16 ⌝ }
     ensures { λ r. ⌜ r ≡ cond (bit place bits) length 0 ⌝ }
 {

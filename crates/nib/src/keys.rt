@@ -5,12 +5,14 @@ ghost use lib.ListN.{take};
 ghost use Rattle.cells.specs.Rows.{placeOf};
 ghost use Rattle.nib.specs.Keys.{keyRows, keyFound};
 
+#[repr(C)]
 pub struct NetworkKey {
     pub number: u8,
     pub key: [u8; 16],
 }
 
 // Of the rows the first `used` are in use.
+#[repr(C)]
 pub struct NetworkKeys {
     pub rows: [NetworkKey; 2],
     pub used: usize,

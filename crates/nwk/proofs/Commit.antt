@@ -38,7 +38,8 @@ use Rattle.nwk.specs.declared.judge.Caller.{Caller}
 use Rattle.nwk.specs.declared.judge.Verdict.{Verdict}
 use Rattle.nwk.specs.declared.state.Nwk.{Nwk}
 use Rattle.nwk.specs.OpenNwk.{Opened, unchanged, activeAfter, nwkJudged, nwkPlaced, nwkUnfit, openNwk}
-use Rattle.nwk.specs.Halves.{freshness, heldOf, heardFrom, judgedFresh, judgedHeard, nwkAsked, callerOf, isOpened, heardFrame, verdictOf, opened}
+use Rattle.nwk.specs.Halves.{freshness, heldOf, heardFrom, judgedFresh, judgedHeard, nwkAsked, callerOf, isOpened, heardFrame, verdictOf}
+use Rattle.nwk.specs.Leaves.{opened}
 
 -- ---- the judgement
 

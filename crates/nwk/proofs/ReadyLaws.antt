@@ -23,7 +23,8 @@ use Rattle.nib.specs.Sending.{AfterTaking, mayUse, taken, took}
 use Rattle.protection.specs.Protection.{level}
 use Rattle.nwk.specs.declared.ready.Ready.{Ready}
 use Rattle.nwk.specs.declared.state.Nwk.{Nwk}
-use Rattle.nwk.specs.Ready.{notReady, readyFramed, readyFor, secured}
+use Rattle.nwk.specs.Ready.{notReady, readyFramed, readyFor}
+use Rattle.nwk.specs.Leaves.{secured}
 use Rattle.nwk.specs.SecureNwk.{Secured, notSecured, nwkAdded, nwkOnAir, nwkDone, nwkFramed, secureNwk}
 
 -- ---- what a securing that is done has checked

@@ -12,7 +12,6 @@ use Rattle.answer.specs.declared.Outcome.{Outcome}
 use Rattle.answer.specs.declared.Outcome.the-variants.{Done, Refused}
 use Rattle.answer.specs.declared.Refusal.the-variants.{Unsupported, Cut, CounterRepeated, CounterBehind, WrongTag, TableFull}
 use Rattle.cells.specs.Rows.{Reaction, leave, become}
-use Rattle.nib.specs.declared.counters.CounterRow.{CounterRow}
 use Rattle.nib.specs.declared.counters.Known.{Known}
 use Rattle.nib.specs.declared.counters.Known.the-variants.{Nothing, Counter}
 use Rattle.nib.specs.declared.counters.Standing.{Standing}
@@ -25,12 +24,10 @@ use Rattle.protection.specs.declared.claims.Who.the-variants.{Told, Claims}
 use Rattle.protection.specs.Claims.{numberOf, refuse, nwkWho}
 use Rattle.protection.specs.Heard.{Heard, refused}
 use Rattle.protection.specs.Protection.{level, tagSize, payloadSize, vouches, openedOctets}
-use Rattle.nwk.specs.declared.bridge.OpenedWith.{OpenedWith}
 use Rattle.nwk.specs.declared.judge.Caller.{Caller}
 use Rattle.nwk.specs.declared.judge.Verdict.{Verdict}
-use Rattle.nwk.specs.declared.open.OpenedNwk.{OpenedNwk}
 use Rattle.nwk.specs.declared.state.Nwk.{Nwk}
-use Rattle.nwk.specs.OpenNwk.{Opened, activeAfter, nwkJudged}
+use Rattle.nwk.specs.OpenNwk.{activeAfter, nwkJudged}
 
 -- ---- whose row is asked for
 
@@ -88,12 +85,3 @@ verdictOf s (Told a) standing b = record { answer = a; active = s .active; opens
 verdictOf s (Claims c) standing b =
     let a : Answer = (judgedHeard (s .keys) c standing b) .answer in
     record { answer = a; active = activeAfter (s .active) (numberOf (c .key)) a; opens = isOpened a }
-
--- ---- what a call leaves, by what it returns and what is in the memory lent
-
-abbrev pub opened : OpenedNwk → List CounterRow → List ℕ → Opened
-opened r rows frame = record { answer = r .answer; frame = frame; rows = rows; used = r .used; active = r .active }
-
--- the same where the rows come back by value
-abbrev pub openedWith : OpenedWith → List ℕ → Opened
-openedWith r frame = record { answer = r .answer; frame = frame; rows = r .rows; used = r .used; active = r .active }

@@ -1,4 +1,5 @@
 pub mod OpenNwk
-pub mod Halves
 pub mod SecureNwk
+pub mod Leaves
+pub mod Halves
 pub mod Ready

@@ -1,27 +1,21 @@
--- Securing in two halves, as the code has them: what is asked before a counter is taken, and what is left. That they make up `secureNwk`
--- is shown in proofs/.
+-- What securing asks before a counter is taken, as the code has it. That `secureNwk` is this, and then the frame, is shown in proofs/.
 use mathlib.Core.Bool.{true, false, cond, not, _||_}
 use mathlib.Core.List.{List}
 use Prim.Native.Nat.{ℕ, _+_}
 use lib.Dec.{eqb, leb, ltb}
 use lib.ListN.{length}
-use Rattle.answer.specs.declared.Answer.{Answer}
 use Rattle.answer.specs.declared.Answer.the-variants.{Done, Refused}
 use Rattle.answer.specs.declared.Refusal.{Refusal}
 use Rattle.answer.specs.declared.Refusal.the-variants.{Unsupported, Cut, NoNetworkKey, CounterExhausted, NoRoom}
 use Rattle.header.specs.declared.network.NwkRead.{NwkRead}
 use Rattle.header.specs.declared.network.NwkRead.the-variants as nwk
 use Rattle.header.specs.Nwk.{nwkOf}
-use Rattle.nib.specs.declared.outgoing.Outgoing.{Outgoing}
 use Rattle.nib.specs.Keys.{keyFound}
 use Rattle.nib.specs.Sending.{mayUse}
 use Rattle.protection.specs.Protection.{level}
-use Rattle.nwk.specs.declared.bridge.SecuredWith.{SecuredWith}
 use Rattle.nwk.specs.declared.ready.Ready.{Ready}
 use Rattle.nwk.specs.declared.state.Nwk.{Nwk}
-use Rattle.nwk.specs.SecureNwk.{Secured, nwkAdded}
-
--- ---- what is asked
+use Rattle.nwk.specs.SecureNwk.{nwkAdded}
 
 abbrev pub notReady : Refusal → Ready
 notReady why = record { go = false; answer = Refused why; header = 0 }
@@ -40,12 +34,3 @@ unfoldable pub readyFor : Nwk → ℕ → List ℕ → ℕ → Ready
 readyFor s next plain room =
     cond (not (eqb (s .level) level) || (ltb 2 (s .keys .used) || ltb 1006 (length plain))) (notReady Unsupported)
     (readyFramed s next (length plain) room (nwkOf plain))
-
--- ---- what a call leaves, by what it returns and what is in the memory lent
-
-abbrev pub secured : Answer → List ℕ → Outgoing → Secured
-secured a out o = record { answer = a; out = out; outgoing = o }
-
--- the same where the outgoing counter comes back by value
-abbrev pub securedWith : SecuredWith → List ℕ → Secured
-securedWith r out = record { answer = r .answer; out = out; outgoing = r .outgoing }

@@ -1,9 +1,8 @@
 // Opening and securing with the counters by value, for callers that lend no struct.
 ghost use mathlib.Core.Path.{_≡_};
 ghost use Rattle.nwk.specs.OpenNwk.{openNwk};
-ghost use Rattle.nwk.specs.Halves.{openedWith};
+ghost use Rattle.nwk.specs.Leaves.{openedWith, securedWith};
 ghost use Rattle.nwk.specs.SecureNwk.{secureNwk};
-ghost use Rattle.nwk.specs.Ready.{securedWith};
 use crate::open::open_nwk;
 use crate::secure::secure_nwk;
 use crate::state::Nwk;

@@ -9,7 +9,7 @@ use control::Control;
 use control::KeyIdentifier;
 
 // The length of the auxiliary header that NWK sends, with sender and key number.
-pub const AUXILIARY: usize = 14;
+pub(crate) const AUXILIARY: usize = 14;
 
 // Lays header, auxiliary header and payload into `out`, all still plain.
 fn lay(nwk: Nwk, counter: u32, plain: &[u8], out: &mut [u8], header: usize)
@@ -31,7 +31,7 @@ fn lay(nwk: Nwk, counter: u32, plain: &[u8], out: &mut [u8], header: usize)
 }
 
 // Writes the frame under this counter; what stands in `out` past it stays.
-pub fn finish(nwk: Nwk, counter: u32, plain: &[u8], out: &mut [u8], header: usize)
+pub(crate) fn finish(nwk: Nwk, counter: u32, plain: &[u8], out: &mut [u8], header: usize)
     requires { ⌜ (header ≤ length (now plain)) × (length (now plain) ≤ 1006) × (length (now plain) + nwkAdded ≤ length (now out)) ⌝ }
     ensures { λ _. ⌜ now (out .exit) ≡ nwkOnAir nwk counter (now (plain .entry)) header ++ drop (length (now (plain .entry)) + nwkAdded) (now (out .entry)) ⌝ }
 {

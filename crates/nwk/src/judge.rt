@@ -17,7 +17,7 @@ use protection::Claim;
 use protection::Who;
 
 // Whose row is asked for; number, sender and counter are 0 where the frame claims to be nobody's.
-pub struct Caller {
+pub(crate) struct Caller {
     pub who: Who,
     pub number: u8,
     pub sender: u64,
@@ -25,7 +25,7 @@ pub struct Caller {
 }
 
 // The answer, the number of the active key after it, and whether the counter is to be recorded.
-pub struct Verdict {
+pub(crate) struct Verdict {
     pub answer: Answer,
     pub active: u8,
     pub opens: bool,
@@ -54,7 +54,7 @@ fn asked(nwk: Nwk, lent: usize, used: usize, frame: &[u8]) -> Who
     protection::nwk_who(nwk.keys, frame)
 }
 
-pub fn caller_of(nwk: Nwk, lent: usize, used: usize, frame: &[u8]) -> Caller
+pub(crate) fn caller_of(nwk: Nwk, lent: usize, used: usize, frame: &[u8]) -> Caller
     ensures { λ r. ⌜ r ≡ callerOf (nwkAsked nwk lent used (now (frame .entry))) ⌝ }
 {
     let who = asked(nwk, lent, used, frame);
@@ -159,7 +159,7 @@ fn active_after(active: u8, number: u8, answer: Answer) -> u8
 }
 
 // The judgement. A frame that is refused keeps every byte.
-pub fn judge(nwk: Nwk, who: Who, standing: Standing, frame: &mut [u8]) -> Verdict
+pub(crate) fn judge(nwk: Nwk, who: Who, standing: Standing, frame: &mut [u8]) -> Verdict
     requires { ⌜ ((c : Claim) → who ≡ Who.Claims c → Sized c (now frame)) ⌝ }
     ensures { λ r. ⌜ (r ≡ verdictOf nwk who standing (now (frame .entry))) × (now (frame .exit) ≡ heardFrame nwk who standing (now (frame .entry))) ⌝ }
 {

@@ -1,7 +1,7 @@
 // Opening NWK: a judgement that only reads the rows, and then one commit.
 ghost use mathlib.Core.Path.{_≡_};
 ghost use Rattle.nwk.specs.OpenNwk.{openNwk};
-ghost use Rattle.nwk.specs.Halves.{opened};
+ghost use Rattle.nwk.specs.Leaves.{opened};
 use crate::judge::caller_of;
 use crate::judge::judge;
 use crate::state::Nwk;

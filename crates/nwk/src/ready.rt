@@ -22,7 +22,7 @@ const LARGEST: usize = 1006;
 const ADDED: usize = AUXILIARY + 4;
 
 // Whether the frame goes out, the answer, and the length of its header (0 where it does not go out).
-pub struct Ready {
+pub(crate) struct Ready {
     pub go: bool,
     pub answer: Answer,
     pub header: usize,
@@ -70,7 +70,7 @@ fn framed(nwk: Nwk, next: u32, size: usize, room: usize, h: NwkHeader) -> Ready
 }
 
 // Every check; `next` is the next counter, and `room` the output buffer's length.
-pub fn ready_for(nwk: Nwk, next: u32, plain: &[u8], room: usize) -> Ready
+pub(crate) fn ready_for(nwk: Nwk, next: u32, plain: &[u8], room: usize) -> Ready
     ensures { λ r. ⌜ r ≡ readyFor nwk next (now (plain .entry)) room ⌝ }
 {
     if nwk.level != LEVEL {

@@ -1,7 +1,7 @@
 // Securing NWK, from a plain frame to an output buffer. The outgoing counter is the caller's record.
 ghost use mathlib.Core.Path.{_≡_};
 ghost use Rattle.nwk.specs.SecureNwk.{secureNwk};
-ghost use Rattle.nwk.specs.Ready.{secured};
+ghost use Rattle.nwk.specs.Leaves.{secured};
 use crate::finish::finish;
 use crate::ready::ready_for;
 use crate::state::Nwk;

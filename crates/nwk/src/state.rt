@@ -2,6 +2,7 @@
 use nib::NetworkKeys;
 
 // The level, the gateway's own address, the number of the active key, and the network keys.
+#[repr(C)]
 pub struct Nwk {
     pub level: u8,
     pub own: u64,

@@ -48,7 +48,7 @@ fn keyed_with(key: &[u8], text: &[u8], round: &[u64; 256], substitution: &[u8; 2
 }
 
 // The same, with the tables named here, once a keyed hash.
-pub fn keyed_digest(key: &[u8], text: &[u8]) -> [u8; 16]
+pub(crate) fn keyed_digest(key: &[u8], text: &[u8]) -> [u8; 16]
     requires { ⌜ (length (now key) < 8192) × (length (now text) ≤ 8175) ⌝ }
     ensures { λ r. ⌜ r ≡ keyedHash (now (key .entry)) (now (text .entry)) ⌝ }
 {

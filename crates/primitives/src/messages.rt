@@ -10,7 +10,7 @@ use crate::padding::pad;
 use crate::steps::run;
 
 // From the value h over the rest s of a message of total bytes, of which whole blocks have been taken before; and its padding.
-pub fn finish(
+pub(crate) fn finish(
     h: [u8; 16],
     s: &[u8],
     total: usize,
@@ -32,7 +32,7 @@ pub fn finish(
 }
 
 // A message from an initial value. The tables are named here, once a hash.
-pub fn digest(h: [u8; 16], message: &[u8]) -> [u8; 16]
+pub(crate) fn digest(h: [u8; 16], message: &[u8]) -> [u8; 16]
     requires { ⌜ length (now message) < 8192 ⌝ }
     ensures { λ r. ⌜ r ≡ hashFrom h (now (message .entry)) ⌝ }
 {

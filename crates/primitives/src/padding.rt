@@ -6,13 +6,13 @@ ghost use lib.ListN.{length, take};
 ghost use Rattle.primitives.specs.Hash.{padding};
 
 // The first len of these bytes.
-pub struct Padded {
+pub(crate) struct Padded {
     pub bytes: [u8; 32],
     pub len: usize,
 }
 
 // s, which is what a message of total bytes has after its last whole block, and then the padding: one block or two.
-pub fn pad(s: &[u8], total: usize) -> Padded
+pub(crate) fn pad(s: &[u8], total: usize) -> Padded
     requires { ⌜ (total < 8192) × (length (now s) ≡ total % 16) ⌝ }
     ensures { λ r. ⌜ (r .len ≡ length (now (s .entry)) + length (padding total)) × (r .len ≤ 32)
         × (take (r .len) (r .bytes) ≡ now (s .entry) ++ padding total) ⌝ }

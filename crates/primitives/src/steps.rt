@@ -5,7 +5,7 @@ ghost use Rattle.tables.specs.Rounds.{IsRound, IsSubstitution};
 ghost use Rattle.primitives.specs.Hash.{step, steps, filled};
 
 // The first 16 bytes of s; where there are fewer, zeros follow them.
-pub fn first_block(s: &[u8]) -> [u8; 16]
+pub(crate) fn first_block(s: &[u8]) -> [u8; 16]
     ensures { λ r. ⌜ r ≡ filled (now (s .entry)) ⌝ }
 {
     let mut x = [0u8; 16];
@@ -14,7 +14,12 @@ pub fn first_block(s: &[u8]) -> [u8; 16]
 }
 
 // One block, with the tables of AES lent.
-pub fn step(h: [u8; 16], x: [u8; 16], round: &[u64; 256], substitution: &[u8; 256]) -> [u8; 16]
+pub(crate) fn step(
+    h: [u8; 16],
+    x: [u8; 16],
+    round: &[u64; 256],
+    substitution: &[u8; 256],
+) -> [u8; 16]
     requires { ⌜ IsRound (now round) ⌝ }
     requires { ⌜ IsSubstitution (now substitution) ⌝ }
     ensures { λ r. ⌜ r ≡ step h x ⌝ }
@@ -26,7 +31,7 @@ pub fn step(h: [u8; 16], x: [u8; 16], round: &[u64; 256], substitution: &[u8; 25
 }
 
 // From h over the blocks of s, the last filled up with zeros.
-pub fn run(h: [u8; 16], s: &[u8], round: &[u64; 256], substitution: &[u8; 256]) -> [u8; 16]
+pub(crate) fn run(h: [u8; 16], s: &[u8], round: &[u64; 256], substitution: &[u8; 256]) -> [u8; 16]
     requires { ⌜ IsRound (now round) ⌝ }
     requires { ⌜ IsSubstitution (now substitution) ⌝ }
     ensures { λ r. ⌜ r ≡ steps h (blocks (now (s .entry))) ⌝ }

@@ -23,7 +23,7 @@ use Rattle.nib.specs.Keys.{keyFound}
 use Rattle.protection.specs.Claims.{nwkWho}
 use Rattle.protection.specs.Heard.{refused}
 use Rattle.nwk.specs.declared.bridge.OpenedWith.{OpenedWith}
-use Rattle.nwk.specs.Halves.{openedWith}
+use Rattle.nwk.specs.Leaves.{openedWith}
 use Rattle.nwk.specs.OpenNwk.{Opened, openNwk, nwkPlaced, nwkUnfit, unchanged}
 use Rattle.reader.specs.declared.fields.Field.{Field}
 use Rattle.reader.specs.declared.fields.FieldRead.{FieldRead}

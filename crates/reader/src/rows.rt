@@ -10,7 +10,7 @@ use nib::NetworkKey;
 use nib::NetworkKeys;
 
 // The place of the row of that key number and sender among the first `used`, or `used` where the row would not be a repeated one.
-pub fn repeated(rows: [CounterRow; 64], used: usize, number: u8, sender: u64) -> usize
+pub(crate) fn repeated(rows: [CounterRow; 64], used: usize, number: u8, sender: u64) -> usize
     requires { ⌜ used ≤ 64 ⌝ }
     ensures { λ r. ⌜ r ≡ placeOf counterRows (take used rows) (pair number sender) ⌝ }
 {
@@ -29,7 +29,7 @@ pub fn repeated(rows: [CounterRow; 64], used: usize, number: u8, sender: u64) ->
 }
 
 // The key in the 16 bytes of a key row.
-pub fn key_in(s: &[u8]) -> [u8; 16]
+pub(crate) fn key_in(s: &[u8]) -> [u8; 16]
     requires { ⌜ length (now s) ≡ 16 ⌝ }
     ensures { λ r. ⌜ r ≡ now (s .entry) ⌝ }
 {
@@ -39,7 +39,7 @@ pub fn key_in(s: &[u8]) -> [u8; 16]
 }
 
 // The network keys with one more.
-pub fn with_key(keys: NetworkKeys, row: NetworkKey) -> NetworkKeys
+pub(crate) fn with_key(keys: NetworkKeys, row: NetworkKey) -> NetworkKeys
     ensures { λ r. ⌜ r ≡ withKey keys row ⌝ }
 {
     let used = keys.used;

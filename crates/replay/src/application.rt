@@ -33,7 +33,7 @@ fn tell_outcome(show: u8, outcome: Outcome) {
     tell_answer(show, class_of_aps(answer::outcome_number(outcome)), 0, 0);
 }
 
-pub fn open(case: Case, body: &[u8], space: &mut [u8]) {
+pub(crate) fn open(case: Case, body: &[u8], space: &mut [u8]) {
     let frame = first_in(case, body);
     let len = frame.len();
     lay(frame, space);
@@ -49,7 +49,7 @@ pub fn open(case: Case, body: &[u8], space: &mut [u8]) {
     tell_bytes(case.show, part(space, 0, len));
 }
 
-pub fn secure(case: Case, body: &[u8], space: &mut [u8]) {
+pub(crate) fn secure(case: Case, body: &[u8], space: &mut [u8]) {
     let room = case.room;
     blank(space);
     if space.len() < room {
@@ -71,7 +71,7 @@ pub fn secure(case: Case, body: &[u8], space: &mut [u8]) {
     tell_bytes(case.show, part(space, 0, room));
 }
 
-pub fn advance(case: Case, body: &[u8]) {
+pub(crate) fn advance(case: Case, body: &[u8]) {
     let advanced = aib::advance(pairs_of(case, body), case.device);
     let outcome = advanced.outcome;
     tell_outcome(case.show, outcome);
@@ -80,7 +80,7 @@ pub fn advance(case: Case, body: &[u8]) {
     tell_bytes(case.show, b"");
 }
 
-pub fn record(case: Case, body: &[u8]) {
+pub(crate) fn record(case: Case, body: &[u8]) {
     let recorded = aib::record(pairs_of(case, body), case.device, case.counter);
     let outcome = recorded.outcome;
     tell_outcome(case.show, outcome);

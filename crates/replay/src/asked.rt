@@ -7,7 +7,7 @@ use crate::parts::part;
 use crate::parts::two;
 use crate::parts::wide;
 
-pub struct Case {
+pub(crate) struct Case {
     pub call: u8,
     pub show: u8,
     pub level: u8,
@@ -29,7 +29,7 @@ pub struct Case {
     pub second: u32,
 }
 
-pub fn case_in(head: &[u8]) -> Case {
+pub(crate) fn case_in(head: &[u8]) -> Case {
     Case {
         call: octet(head, 0),
         show: octet(head, 1),
@@ -82,31 +82,31 @@ fn after_first(case: Case) -> usize
 }
 
 // How many bytes follow the head.
-pub fn size(case: Case) -> usize {
+pub(crate) fn size(case: Case) -> usize {
     after_first(case) + long(case.second)
 }
 
-pub fn keys_in(case: Case, body: &[u8]) -> &[u8] {
+pub(crate) fn keys_in(case: Case, body: &[u8]) -> &[u8] {
     part(body, 0, after_keys(case))
 }
 
-pub fn rows_in(case: Case, body: &[u8]) -> &[u8] {
+pub(crate) fn rows_in(case: Case, body: &[u8]) -> &[u8] {
     part(body, after_keys(case), after_rows(case))
 }
 
-pub fn pairs_in(case: Case, body: &[u8]) -> &[u8] {
+pub(crate) fn pairs_in(case: Case, body: &[u8]) -> &[u8] {
     part(body, after_rows(case), after_pairs(case))
 }
 
-pub fn first_in(case: Case, body: &[u8]) -> &[u8] {
+pub(crate) fn first_in(case: Case, body: &[u8]) -> &[u8] {
     part(body, after_pairs(case), after_first(case))
 }
 
-pub fn second_in(case: Case, body: &[u8]) -> &[u8] {
+pub(crate) fn second_in(case: Case, body: &[u8]) -> &[u8] {
     part(body, after_first(case), size(case))
 }
 
 // Whether the tables fit what document 01 gives them.
-pub fn fits(case: Case) -> bool {
+pub(crate) fn fits(case: Case) -> bool {
     case.keys <= 2 && case.rows <= 64 && case.pairs <= 16
 }

@@ -22,7 +22,7 @@ use nib::NetworkKey;
 use nib::NetworkKeys;
 
 // Counter rows by value.
-pub struct Rows {
+pub(crate) struct Rows {
     pub rows: [CounterRow; 64],
     pub used: usize,
 }
@@ -34,7 +34,7 @@ fn key_in(s: &[u8]) -> NetworkKey {
     }
 }
 
-pub fn keys_of(case: Case, body: &[u8]) -> NetworkKeys {
+pub(crate) fn keys_of(case: Case, body: &[u8]) -> NetworkKeys {
     let s = keys_in(case, body);
     let mut rows = [key_in(part(s, 0, 17)); 2];
     rows[1] = key_in(part(s, 17, 34));
@@ -52,7 +52,7 @@ fn row_in(s: &[u8]) -> CounterRow {
     }
 }
 
-pub fn rows_of(case: Case, body: &[u8]) -> Rows {
+pub(crate) fn rows_of(case: Case, body: &[u8]) -> Rows {
     let s = rows_in(case, body);
     let mut rows = [row_in(part(s, 0, 0)); 64];
     let mut i: usize = 0;
@@ -78,7 +78,7 @@ fn pair_in(s: &[u8]) -> PairRow {
     }
 }
 
-pub fn pairs_of(case: Case, body: &[u8]) -> Pairs {
+pub(crate) fn pairs_of(case: Case, body: &[u8]) -> Pairs {
     let s = pairs_in(case, body);
     let mut rows = [pair_in(part(s, 0, 0)); 16];
     let mut i: usize = 0;
@@ -99,7 +99,7 @@ fn tell_row(row: CounterRow) {
     hexadecimal(row.counter as u64, 8);
 }
 
-pub fn tell_rows(show: u8, rows: Rows) {
+pub(crate) fn tell_rows(show: u8, rows: Rows) {
     if !shown(show, ROWS) || rows.used == 0 {
         tell_none(show, ROWS);
         return;
@@ -125,7 +125,7 @@ fn tell_pair(row: PairRow) {
     hexadecimal(row.incoming as u64, 8);
 }
 
-pub fn tell_pairs(show: u8, pairs: Pairs) {
+pub(crate) fn tell_pairs(show: u8, pairs: Pairs) {
     if !shown(show, ROWS) || pairs.used == 0 {
         tell_none(show, ROWS);
         return;

@@ -56,7 +56,7 @@ fn tell_opened(show: u8, opened: OpenedWith) {
     );
 }
 
-pub fn open(case: Case, body: &[u8], space: &mut [u8]) {
+pub(crate) fn open(case: Case, body: &[u8], space: &mut [u8]) {
     let frame = first_in(case, body);
     let len = frame.len();
     lay(frame, space);
@@ -71,7 +71,7 @@ pub fn open(case: Case, body: &[u8], space: &mut [u8]) {
     tell_bytes(case.show, part(space, 0, len));
 }
 
-pub fn secure(case: Case, body: &[u8], space: &mut [u8]) {
+pub(crate) fn secure(case: Case, body: &[u8], space: &mut [u8]) {
     let room = case.room;
     blank(space);
     if space.len() < room {
@@ -94,7 +94,7 @@ pub fn secure(case: Case, body: &[u8], space: &mut [u8]) {
     tell_bytes(case.show, part(space, 0, room));
 }
 
-pub fn take(case: Case) {
+pub(crate) fn take(case: Case) {
     let taken = by_value::take_with(Outgoing {
         next: case.outgoing,
     });
@@ -107,7 +107,7 @@ pub fn take(case: Case) {
     tell_bytes(case.show, b"");
 }
 
-pub fn reset(case: Case) {
+pub(crate) fn reset(case: Case) {
     let outgoing = nib::reset(Outgoing {
         next: case.outgoing,
     });
@@ -133,14 +133,14 @@ fn tell_recorded(show: u8, recorded: RecordedWith) {
     tell_bytes(show, b"");
 }
 
-pub fn record(case: Case, body: &[u8]) {
+pub(crate) fn record(case: Case, body: &[u8]) {
     let held = rows_of(case, body);
     let rows = held.rows;
     let recorded = by_value::record_with(rows, held.used, case.number, case.device, case.counter);
     tell_recorded(case.show, recorded);
 }
 
-pub fn forget(case: Case, body: &[u8]) {
+pub(crate) fn forget(case: Case, body: &[u8]) {
     let held = rows_of(case, body);
     let rows = held.rows;
     let forgotten = by_value::forget_with(rows, held.used, case.number);

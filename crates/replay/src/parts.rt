@@ -1,23 +1,23 @@
 // Parts of the input. Each of these takes any place: where the input ends before, there are zeros or nothing.
 ghost use Prim.Native.Nat.{_<_, _≤_};
 
-pub fn wide(octet: u8) -> usize
+pub(crate) fn wide(octet: u8) -> usize
     ensures { λ r. ⌜ r < 256 ⌝ }
 {
     octet as usize
 }
 
-pub fn least(a: usize, b: usize) -> usize
+pub(crate) fn least(a: usize, b: usize) -> usize
     ensures { λ r. ⌜ (r ≤ a) × (r ≤ b) ⌝ }
 {
     if a < b { a } else { b }
 }
 
-pub fn octet(s: &[u8], at: usize) -> u8 {
+pub(crate) fn octet(s: &[u8], at: usize) -> u8 {
     if at < s.len() { s[at] } else { 0 }
 }
 
-pub fn two(s: &[u8], at: usize) -> usize {
+pub(crate) fn two(s: &[u8], at: usize) -> usize {
     if s.len() < 2 {
         return 0;
     }
@@ -27,7 +27,7 @@ pub fn two(s: &[u8], at: usize) -> usize {
     wide(s[at]) + 256 * wide(s[at + 1])
 }
 
-pub fn four(s: &[u8], at: usize) -> u32 {
+pub(crate) fn four(s: &[u8], at: usize) -> u32 {
     if s.len() < 4 {
         return 0;
     }
@@ -37,7 +37,7 @@ pub fn four(s: &[u8], at: usize) -> u32 {
     frame::number_at(s, at, 4) as u32
 }
 
-pub fn eight(s: &[u8], at: usize) -> u64 {
+pub(crate) fn eight(s: &[u8], at: usize) -> u64 {
     if s.len() < 8 {
         return 0;
     }
@@ -47,7 +47,7 @@ pub fn eight(s: &[u8], at: usize) -> u64 {
     frame::number_at(s, at, 8)
 }
 
-pub fn part(s: &[u8], from: usize, to: usize) -> &[u8] {
+pub(crate) fn part(s: &[u8], from: usize, to: usize) -> &[u8] {
     if to <= s.len() {
         if from <= to {
             return &s[from..to];
@@ -56,13 +56,13 @@ pub fn part(s: &[u8], from: usize, to: usize) -> &[u8] {
     &s[..0]
 }
 
-pub fn thirteen(s: &[u8]) -> [u8; 13] {
+pub(crate) fn thirteen(s: &[u8]) -> [u8; 13] {
     let mut block = [0u8; 13];
     ccm::xor_into(&mut block, s);
     block
 }
 
-pub fn sixteen(s: &[u8]) -> [u8; 16] {
+pub(crate) fn sixteen(s: &[u8]) -> [u8; 16] {
     let mut block = [0u8; 16];
     ccm::xor_into(&mut block, s);
     block

@@ -55,18 +55,18 @@ fn tell_digest(show: u8, digest: Digest) {
     tell_bytes(show, &value);
 }
 
-pub fn hash(case: Case, body: &[u8]) {
+pub(crate) fn hash(case: Case, body: &[u8]) {
     tell_digest(case.show, primitives::hash(first_in(case, body)));
 }
 
-pub fn hash_from(case: Case, body: &[u8]) {
+pub(crate) fn hash_from(case: Case, body: &[u8]) {
     tell_digest(
         case.show,
         primitives::hash_from(first_in(case, body), second_in(case, body)),
     );
 }
 
-pub fn keyed_hash(case: Case, body: &[u8]) {
+pub(crate) fn keyed_hash(case: Case, body: &[u8]) {
     tell_digest(
         case.show,
         primitives::keyed_hash(first_in(case, body), second_in(case, body)),
@@ -82,7 +82,7 @@ fn identifier(key: KeyIdentifier) -> u64 {
     }
 }
 
-pub fn control(case: Case) {
+pub(crate) fn control(case: Case) {
     let control = Control { byte: case.control };
     tell_answer(case.show, 0, 0, 0);
     tell_number(case.show, control.level() as u64);
@@ -95,7 +95,7 @@ pub fn control(case: Case) {
     tell_bytes(case.show, b"");
 }
 
-pub fn nwk_header(case: Case, body: &[u8]) {
+pub(crate) fn nwk_header(case: Case, body: &[u8]) {
     match header::nwk(first_in(case, body)) {
         NwkRead::Cut => tell_only(case.show, 2),
         NwkRead::Whole(h) => {
@@ -108,7 +108,7 @@ pub fn nwk_header(case: Case, body: &[u8]) {
     }
 }
 
-pub fn aps_header(case: Case, body: &[u8]) {
+pub(crate) fn aps_header(case: Case, body: &[u8]) {
     match header::aps(first_in(case, body)) {
         ApsRead::Cut => tell_only(case.show, 2),
         ApsRead::NotTaken => tell_only(case.show, 7),
@@ -158,14 +158,14 @@ fn tell_auxiliary(show: u8, a: Auxiliary) {
     tell_bytes(show, b"");
 }
 
-pub fn read_auxiliary(case: Case, body: &[u8]) {
+pub(crate) fn read_auxiliary(case: Case, body: &[u8]) {
     match frame::read(first_in(case, body), 0) {
         AuxiliaryRead::Cut => tell_only(case.show, 2),
         AuxiliaryRead::Whole(a) => tell_auxiliary(case.show, a),
     }
 }
 
-pub fn write_auxiliary(case: Case, space: &mut [u8]) {
+pub(crate) fn write_auxiliary(case: Case, space: &mut [u8]) {
     let room = case.room;
     blank(space);
     if space.len() < room {
@@ -204,7 +204,7 @@ fn joined(a: &[u8], b: &[u8], space: &mut [u8]) -> usize
 }
 
 // Key, nonce and associated data in the first string, the message in the second. The message with its tag is told.
-pub fn seal(case: Case, body: &[u8], space: &mut [u8]) {
+pub(crate) fn seal(case: Case, body: &[u8], space: &mut [u8]) {
     let s = first_in(case, body);
     let associated = part(s, 29, s.len());
     let message = second_in(case, body);
@@ -227,7 +227,7 @@ pub fn seal(case: Case, body: &[u8], space: &mut [u8]) {
 }
 
 // The same, with the sealed message and its tag in the second string. What stands there after the call is told.
-pub fn unseal(case: Case, body: &[u8], space: &mut [u8]) {
+pub(crate) fn unseal(case: Case, body: &[u8], space: &mut [u8]) {
     let s = first_in(case, body);
     let associated = part(s, 29, s.len());
     let sealed = second_in(case, body);

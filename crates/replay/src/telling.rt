@@ -5,32 +5,32 @@ use crate::parts::part;
 use libc::STDOUT_FILENO;
 
 // What a case asks to be shown.
-pub const ANSWER: u8 = 1;
+pub(crate) const ANSWER: u8 = 1;
 
-pub const SPAN: u8 = 2;
+pub(crate) const SPAN: u8 = 2;
 
-pub const NUMBERS: u8 = 4;
+pub(crate) const NUMBERS: u8 = 4;
 
-pub const ROWS: u8 = 8;
+pub(crate) const ROWS: u8 = 8;
 
-pub const BYTES: u8 = 16;
+pub(crate) const BYTES: u8 = 16;
 
 // Bytes that become digits in one piece.
 const PIECE: usize = 512;
 
-pub fn text(s: &[u8]) {
+pub(crate) fn text(s: &[u8]) {
     io::write_all(STDOUT_FILENO, s);
 }
 
-pub fn decimal(n: u64) {
+pub(crate) fn decimal(n: u64) {
     io::print_decimal(STDOUT_FILENO, n);
 }
 
-pub fn hexadecimal(n: u64, width: usize) {
+pub(crate) fn hexadecimal(n: u64, width: usize) {
     io::print_hex(STDOUT_FILENO, n, width);
 }
 
-pub fn shown(show: u8, what: u8) -> bool {
+pub(crate) fn shown(show: u8, what: u8) -> bool {
     show & what != 0
 }
 
@@ -53,7 +53,7 @@ fn piece(s: &[u8]) {
     text(part(&digits, 0, 2 * n));
 }
 
-pub fn octets(s: &[u8]) {
+pub(crate) fn octets(s: &[u8]) {
     let mut at = 0;
     while PIECE < s.len() - at {
         piece(&s[at..]);
@@ -62,7 +62,7 @@ pub fn octets(s: &[u8]) {
     piece(&s[at..]);
 }
 
-pub fn tell_answer(show: u8, answer: u8, start: usize, len: usize) {
+pub(crate) fn tell_answer(show: u8, answer: u8, start: usize, len: usize) {
     if shown(show, ANSWER) {
         decimal(answer as u64);
     } else {
@@ -79,7 +79,7 @@ pub fn tell_answer(show: u8, answer: u8, start: usize, len: usize) {
 }
 
 // The only number, or the first of some.
-pub fn tell_number(show: u8, n: u64) {
+pub(crate) fn tell_number(show: u8, n: u64) {
     text(b" ");
     if shown(show, NUMBERS) {
         decimal(n);
@@ -88,14 +88,14 @@ pub fn tell_number(show: u8, n: u64) {
     }
 }
 
-pub fn tell_next(show: u8, n: u64) {
+pub(crate) fn tell_next(show: u8, n: u64) {
     if shown(show, NUMBERS) {
         text(b",");
         decimal(n);
     }
 }
 
-pub fn tell_none(show: u8, what: u8) {
+pub(crate) fn tell_none(show: u8, what: u8) {
     if shown(show, what) {
         text(b" -");
     } else {
@@ -104,7 +104,7 @@ pub fn tell_none(show: u8, what: u8) {
 }
 
 // The bytes, and the line's end.
-pub fn tell_bytes(show: u8, s: &[u8]) {
+pub(crate) fn tell_bytes(show: u8, s: &[u8]) {
     if s.len() == 0 {
         tell_none(show, BYTES);
     } else {

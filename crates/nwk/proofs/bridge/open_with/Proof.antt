@@ -17,7 +17,7 @@ use Rattle.nib.proofs.CounterArray as array
 use Rattle.nwk.specs.declared.bridge.OpenedWith.{OpenedWith}
 use Rattle.nwk.specs.declared.open.OpenedNwk.{OpenedNwk}
 use Rattle.nwk.specs.declared.state.Nwk.{Nwk}
-use Rattle.nwk.specs.Halves.{opened, openedWith}
+use Rattle.nwk.specs.Leaves.{opened, openedWith}
 use Rattle.nwk.specs.OpenNwk.{openNwk}
 use Rattle.nwk.proofs.Values.{nv, av as answer-val, ov}
 use Rattle.nwk.proofs.bridge.OpenedWith as S

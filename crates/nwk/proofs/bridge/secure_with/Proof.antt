@@ -15,7 +15,7 @@ use Rattle.nib.proofs.outgoing.Outgoing as T
 use Rattle.nib.proofs.outgoing.Outgoing.Laws as T′
 use Rattle.nwk.specs.declared.bridge.SecuredWith.{SecuredWith}
 use Rattle.nwk.specs.declared.state.Nwk.{Nwk}
-use Rattle.nwk.specs.Ready.{secured, securedWith}
+use Rattle.nwk.specs.Leaves.{secured, securedWith}
 use Rattle.nwk.specs.SecureNwk.{secureNwk}
 use Rattle.nwk.proofs.Values.{nv, hv, av}
 use Rattle.nwk.proofs.bridge.SecuredWith as S

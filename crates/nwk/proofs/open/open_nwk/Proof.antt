@@ -14,7 +14,8 @@ use Rattle.nwk.specs.declared.judge.Caller.{Caller}
 use Rattle.nwk.specs.declared.judge.Verdict.{Verdict}
 use Rattle.nwk.specs.declared.open.OpenedNwk.{OpenedNwk}
 use Rattle.nwk.specs.declared.state.Nwk.{Nwk}
-use Rattle.nwk.specs.Halves.{callerOf, heardFrame, nwkAsked, opened, verdictOf}
+use Rattle.nwk.specs.Halves.{callerOf, heardFrame, nwkAsked, verdictOf}
+use Rattle.nwk.specs.Leaves.{opened}
 use Rattle.nwk.specs.OpenNwk.{openNwk}
 use Rattle.nwk.proofs.Commit.{sized, opened-recorded, opened-left}
 use Rattle.protection.specs.declared.claims.Claim.{Claim}

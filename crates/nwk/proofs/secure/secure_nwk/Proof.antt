@@ -24,7 +24,8 @@ use Rattle.nib.proofs.outgoing.Taken as K
 use Rattle.nib.proofs.outgoing.Taken.Laws as K′
 use Rattle.nwk.specs.declared.ready.Ready.{Ready}
 use Rattle.nwk.specs.declared.state.Nwk.{Nwk}
-use Rattle.nwk.specs.Ready.{readyFor, secured}
+use Rattle.nwk.specs.Ready.{readyFor}
+use Rattle.nwk.specs.Leaves.{secured}
 use Rattle.nwk.specs.SecureNwk.{nwkAdded, nwkOnAir, secureNwk}
 use Rattle.nwk.proofs.ReadyLaws.{goes, secured-sent, secured-kept}
 use Rattle.nwk.proofs.ready.Ready as R

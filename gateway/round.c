@@ -1,0 +1,29 @@
+/* The same from C: an NWK frame goes out and comes in again, and its copy is refused. */
+#include "pouchkettle.h"
+#include <stdio.h>
+#include <string.h>
+
+#define LOGGER UINT64_C(0x0011223344556677)
+
+static struct pouchkettle_nwk nwk(uint64_t own) {
+    struct pouchkettle_nwk state = {.level = 5, .own = own, .active = 7, .keys = {.used = 1}};
+    state.keys.rows[0].number = 7;
+    memcpy(state.keys.rows[0].key, "sixteen octets!!", 16);
+    return state;
+}
+
+int main(void) {
+    const uint8_t plain[12] = {0x08, 0x02, 0, 0, 0x34, 0x12, 0x1e, 1, '2', '1', '.', '5'};
+    struct pouchkettle_outgoing outgoing = {41};
+    struct pouchkettle_counter_row rows[3] = {{0}};
+    uint8_t frame[40], copy[40];
+    struct pouchkettle_told sent = pouchkettle_secure_nwk(nwk(LOGGER), &outgoing, plain, sizeof plain, frame, sizeof frame);
+    if (sent.number != 0 || sent.len != 30 || outgoing.next != 42) return 1;
+    memcpy(copy, frame, sizeof frame);
+    struct pouchkettle_told_nwk opened = pouchkettle_open_nwk(nwk(1), rows, 3, 0, frame, sent.len);
+    if (opened.told.number != 0 || opened.told.start != 22 || opened.told.len != 4 || memcmp(frame + 22, "21.5", 4) != 0) return 2;
+    if (opened.used != 1 || opened.active != 7 || rows[0].sender != LOGGER || rows[0].counter != 41) return 3;
+    if (pouchkettle_open_nwk(nwk(1), rows, 3, opened.used, copy, sent.len).told.number != 33) return 4;
+    puts("from C: as promised");
+    return 0;
+}
