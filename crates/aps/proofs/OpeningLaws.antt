@@ -22,12 +22,12 @@ use Rattle.aib.specs.declared.pairs.Pairs.{Pairs}
 use Rattle.aib.specs.Pairs.{Pair, pairOf, pairRows, answered, pairFound}
 use Rattle.aib.specs.Counters.{inUse, holding, heard, recorded}
 use Rattle.control.specs.Control.{identifierOf}
-use Rattle.protection.specs.declared.claims.Claim.{Claim}
+use Rattle.claims.specs.declared.Claim.{Claim}
 use Rattle.protection.specs.Keys.{keyFor}
 use Rattle.protection.specs.Heard.{Heard, refused, equals, below}
 use Rattle.protection.specs.Protection.{payloadSize, vouches, openedOctets}
-use Rattle.protection.specs.declared.claims.Who.the-variants.{Told, Claims}
-use Rattle.protection.specs.Claims.{apsWho}
+use Rattle.claims.specs.declared.Who.the-variants.{Told, Claims}
+use Rattle.claims.specs.Claims.{apsWho}
 use Rattle.aps.specs.declared.state.Aps.{Aps}
 use Rattle.aps.specs.OpenAps.{apsUnfit, unchanged, apsPlaced, openAps, Opened, linkKey, incoming, apsJudged, apsCommitted}
 use Rattle.aps.specs.Opening.{heldIn, allowed, tried, replied, kept, committed}

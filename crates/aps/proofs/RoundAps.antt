@@ -29,9 +29,9 @@ use Rattle.frame.specs.AuxiliaryLaws.{read-back}
 use Rattle.header.specs.declared.application.ApsRead.the-variants as aps
 use Rattle.header.specs.Aps.{isCommand, apsLength, apsOf}
 use Rattle.header.specs.ApsLaws.{aps-whole}
-use Rattle.protection.specs.declared.claims.Claim.{Claim}
-use Rattle.protection.specs.declared.claims.Who.the-variants.{Claims}
-use Rattle.protection.specs.Claims.{isNetwork, spent, apsWho}
+use Rattle.claims.specs.declared.Claim.{Claim}
+use Rattle.claims.specs.declared.Who.the-variants.{Claims}
+use Rattle.claims.specs.Claims.{isNetwork, spent, apsWho}
 use Rattle.protection.specs.Keys.{keyFor}
 use Rattle.protection.specs.Heard.{refused, equals, below}
 use Rattle.protection.specs.Protection.{tagSize, payloadSize, vouches, openedOctets}

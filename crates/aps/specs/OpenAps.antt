@@ -14,11 +14,11 @@ use Rattle.aib.specs.declared.pairs.Pairs.{Pairs}
 use Rattle.aib.specs.Pairs.{Pair, pairRows, trustCenterLinkKey}
 use Rattle.aib.specs.Counters.{inUse, holding, heard}
 use Rattle.control.specs.Control.{identifierOf}
-use Rattle.protection.specs.declared.claims.Claim.{Claim}
-use Rattle.protection.specs.declared.claims.Who.{Who}
-use Rattle.protection.specs.declared.claims.Who.the-variants.{Told, Claims}
+use Rattle.claims.specs.declared.Claim.{Claim}
+use Rattle.claims.specs.declared.Who.{Who}
+use Rattle.claims.specs.declared.Who.the-variants.{Told, Claims}
 use Rattle.aps.specs.declared.state.Aps.{Aps}
-use Rattle.protection.specs.Claims.{apsWho}
+use Rattle.claims.specs.Claims.{apsWho}
 use Rattle.protection.specs.Keys.{keyFor}
 use Rattle.protection.specs.Heard.{Heard, refused, equals, below}
 use Rattle.protection.specs.Protection.{level, tagSize, payloadSize, vouches, openedOctets}

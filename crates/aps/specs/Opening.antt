@@ -14,7 +14,7 @@ use Rattle.aib.specs.declared.pairs.Pairs.{Pairs}
 use Rattle.aib.specs.declared.search.PairFound.{PairFound}
 use Rattle.aib.specs.Pairs.{Pair, pairOf, pairRows}
 use Rattle.aib.specs.Counters.{inUse, recorded}
-use Rattle.protection.specs.declared.claims.Claim.{Claim}
+use Rattle.claims.specs.declared.Claim.{Claim}
 use Rattle.protection.specs.Heard.{Heard, refused, equals, below}
 use Rattle.protection.specs.Protection.{tagSize, payloadSize, vouches, openedOctets}
 use Rattle.aps.specs.OpenAps.{Opened, apsJudged, apsCommitted}

@@ -20,7 +20,7 @@ use Rattle.control.specs.declared.KeyIdentifier.the-variants.{Link, Transport, 
 use Rattle.frame.specs.Auxiliary.{auxiliaryOctets}
 use Rattle.header.specs.Aps.{apsTaken, apsLength, isCommand, isSecured}
 use Rattle.aps.specs.declared.state.Aps.{Aps}
-use Rattle.protection.specs.Claims.{spent}
+use Rattle.claims.specs.Claims.{spent}
 use Rattle.protection.specs.Keys.{keyFor}
 use Rattle.protection.specs.Protection.{level, securedOctets}
 

@@ -16,8 +16,8 @@ use aib::TRUST_CENTER_LINK_KEY;
 use answer::Answer;
 use answer::Outcome;
 use answer::Refusal;
-use protection::Claim;
-use protection::Who;
+use claims::Claim;
+use claims::Who;
 
 pub struct OpenedAps {
     pub answer: Answer,
@@ -138,7 +138,7 @@ pub fn open_aps(aps: Aps, pairs: Pairs, frame: &mut [u8]) -> OpenedAps
             pairs,
         };
     }
-    match protection::aps_who(frame) {
+    match claims::aps_who(frame) {
         Who::Told(answer) => OpenedAps { answer, pairs },
         Who::Claims(claim) => open_claim(pairs, claim, frame),
     }

@@ -90,7 +90,7 @@ fn opened(name: &[u8], nwk: Nwk, used: usize, held: u32, frame: &mut [u8]) {
         sender: LOGGER,
         counter: held,
     };
-    let after = nwk::open_with(nwk, [heard; 64], used, frame);
+    let after = nwk_by_value::open_with(nwk, [heard; 64], used, frame);
     let answer = after.answer;
     let rows = after.rows;
     let told = answer::told_of(answer);
@@ -202,7 +202,7 @@ fn outgoing() {
     let plain = [0x08, 0x02, 0x00, 0x00, 0x34, 0x12, 0x1e, 0x01, 0x54];
     let mut out = [0u8; 32];
     let last = Outgoing { next: 4294967295 };
-    let secured = nwk::secure_with(gateway(7, 7), last, &plain, &mut out);
+    let secured = nwk_by_value::secure_with(gateway(7, 7), last, &plain, &mut out);
     let answer = secured.answer;
     let told = answer::told_of(answer);
     let taken = by_value::take_with(last);

@@ -81,16 +81,16 @@ use Rattle.aib.proofs.find as aib-find′
 use Rattle.aib.proofs.usable as aib-usable′
 use Rattle.aib.proofs.advance as aib-advance′
 use Rattle.aib.proofs.record as aib-record′
-use Rattle.protection.proofs.number_of as protection-number-of′
-use Rattle.protection.proofs.nwk_who as protection-nwk-who′
-use Rattle.protection.proofs.aps_who as protection-aps-who′
+use Rattle.claims.proofs.number_of as claims-number-of′
+use Rattle.claims.proofs.nwk_who as claims-nwk-who′
+use Rattle.claims.proofs.aps_who as claims-aps-who′
 use Rattle.protection.proofs.unprotect as protection-unprotect′
 use Rattle.protection.proofs.vouch as protection-vouch′
 use Rattle.protection.proofs.protect as protection-protect′
 use Rattle.nwk.proofs.open_nwk as nwk-open-nwk′
 use Rattle.nwk.proofs.secure_nwk as nwk-secure-nwk′
-use Rattle.nwk.proofs.open_with as nwk-open-with′
-use Rattle.nwk.proofs.secure_with as nwk-secure-with′
+use Rattle.nwk_by_value.proofs.open_with as nwk-by-value-open-with′
+use Rattle.nwk_by_value.proofs.secure_with as nwk-by-value-secure-with′
 use Rattle.aps.proofs.open_aps as aps-open-aps′
 use Rattle.aps.proofs.secure_aps as aps-secure-aps′
 use Rattle.pouchkettle.proofs.pouchkettle_open_nwk as pouchkettle-open-nwk′
@@ -395,19 +395,21 @@ pub aib-record : Decides aib-record′.ended aib-record′.Reads.Post
 unfolding Decides
 aib-record κs a z z′ ws ws′ p q = (p ∙ sym q, refl)
 
+-- ---- claims
+
+pub claims-number-of : Decides claims-number-of′.ended claims-number-of′.Reads.Post
+unfolding Decides
+claims-number-of κs a z z′ ws ws′ p q = (p ∙ sym q, refl)
+
+pub claims-nwk-who : Decides claims-nwk-who′.ended claims-nwk-who′.Reads.Post
+unfolding Decides
+claims-nwk-who κs a z z′ ws ws′ p q = (p ∙ sym q, refl)
+
+pub claims-aps-who : Decides claims-aps-who′.ended claims-aps-who′.Reads.Post
+unfolding Decides
+claims-aps-who κs a z z′ ws ws′ p q = (p ∙ sym q, refl)
+
 -- ---- protection
-
-pub protection-number-of : Decides protection-number-of′.ended protection-number-of′.Reads.Post
-unfolding Decides
-protection-number-of κs a z z′ ws ws′ p q = (p ∙ sym q, refl)
-
-pub protection-nwk-who : Decides protection-nwk-who′.ended protection-nwk-who′.Reads.Post
-unfolding Decides
-protection-nwk-who κs a z z′ ws ws′ p q = (p ∙ sym q, refl)
-
-pub protection-aps-who : Decides protection-aps-who′.ended protection-aps-who′.Reads.Post
-unfolding Decides
-protection-aps-who κs a z z′ ws ws′ p q = (p ∙ sym q, refl)
 
 pub protection-unprotect : Decides protection-unprotect′.ended protection-unprotect′.Reads.Post
 unfolding Decides
@@ -445,13 +447,15 @@ pub nwk-secure-nwk : Decides nwk-secure-nwk′.ended nwk-secure-nwk-promise
 unfolding Decides
 nwk-secure-nwk κs a z z′ ws ws′ p q = let same = p ∙ sym q in (λ i. same i .answer, λ i. (tt, (same i .outgoing, (tt, (same i .out, tt)))))
 
-pub nwk-open-with : Decides nwk-open-with′.ended nwk-open-with′.Reads.Post
-unfolding Decides
-nwk-open-with κs a z z′ ws ws′ p q = let same = p ∙ sym q in (λ i. record { rows = same i .rows; used = same i .used; active = same i .active; answer = same i .answer }, λ i. (tt, (tt, (tt, (same i .frame, tt)))))
+-- ---- nwk_by_value
 
-pub nwk-secure-with : Decides nwk-secure-with′.ended nwk-secure-with′.Reads.Post
+pub nwk-by-value-open-with : Decides nwk-by-value-open-with′.ended nwk-by-value-open-with′.Reads.Post
 unfolding Decides
-nwk-secure-with κs a z z′ ws ws′ p q = let same = p ∙ sym q in (λ i. record { answer = same i .answer; outgoing = same i .outgoing }, λ i. (tt, (tt, (tt, (same i .out, tt)))))
+nwk-by-value-open-with κs a z z′ ws ws′ p q = let same = p ∙ sym q in (λ i. record { rows = same i .rows; used = same i .used; active = same i .active; answer = same i .answer }, λ i. (tt, (tt, (tt, (same i .frame, tt)))))
+
+pub nwk-by-value-secure-with : Decides nwk-by-value-secure-with′.ended nwk-by-value-secure-with′.Reads.Post
+unfolding Decides
+nwk-by-value-secure-with κs a z z′ ws ws′ p q = let same = p ∙ sym q in (λ i. record { answer = same i .answer; outgoing = same i .outgoing }, λ i. (tt, (tt, (tt, (same i .out, tt)))))
 
 -- ---- aps
 

@@ -15,7 +15,7 @@ use Rattle.cells.specs.Reorder.{Reordered}
 use Rattle.nib.specs.Active.{turn}
 use Rattle.nib.specs.Counters.{capacity, empty}
 use Rattle.nib.specs.Keys.{keyFound}
-use Rattle.protection.specs.Claims.{nwkWho}
+use Rattle.claims.specs.Claims.{nwkWho}
 use Rattle.nwk.specs.OpenNwk.{nwkPlaced}
 use Rattle.order.specs.Nwk.{Gateway, NwkDesk, numbers, names, newPairs, opened, Alike}
 use Rattle.needed.specs.OnAir.{underTwo, underThree, two-claims, three-claims, two-opens, three-opens}

@@ -23,9 +23,9 @@ use Rattle.answer.specs.declared.Refusal.the-variants.{CounterRepeated, TableFu
 use Rattle.cells.specs.Rows.{Reaction, leave, become}
 use Rattle.nib.specs.declared.keys.NetworkKeys.{NetworkKeys}
 use Rattle.nib.specs.Keys.{keyFound}
-use Rattle.protection.specs.declared.claims.Claim.{Claim}
-use Rattle.protection.specs.declared.claims.Who.the-variants.{Claims}
-use Rattle.protection.specs.Claims.{nwkWho}
+use Rattle.claims.specs.declared.Claim.{Claim}
+use Rattle.claims.specs.declared.Who.the-variants.{Claims}
+use Rattle.claims.specs.Claims.{nwkWho}
 use Rattle.protection.specs.Heard.{Heard, refused}
 use Rattle.protection.specs.Protection.{vouches, openedOctets}
 use Rattle.nwk.specs.OpenNwk.{nwkJudged}

@@ -27,13 +27,13 @@ use Rattle.nib.specs.Counters.{After, counterRows, capacity, overfull, known, h
 use Rattle.nib.specs.declared.counters.Recorded.{Recorded}
 use Rattle.nib.specs.Keys.{keyFound}
 use Rattle.nib.specs.Pairs.{Pair}
-use Rattle.protection.specs.declared.claims.Claim.{Claim}
-use Rattle.protection.specs.declared.claims.Who.{Who}
-use Rattle.protection.specs.Claims.{numberOf, refuse, nwkWho}
-use Rattle.protection.proofs.ClaimLaws.{Sized, nwk-claim}
+use Rattle.claims.specs.declared.Claim.{Claim}
+use Rattle.claims.specs.declared.Who.{Who}
+use Rattle.claims.specs.Claims.{numberOf, refuse, nwkWho}
+use Rattle.claims.proofs.ClaimLaws.{Sized, nwk-claim}
 use Rattle.protection.specs.Heard.{Heard, refused, equals, below}
 use Rattle.protection.specs.Protection.{tagSize, payloadSize, vouches, openedOctets}
-use Rattle.protection.specs.declared.claims.Who.the-variants.{Told, Claims}
+use Rattle.claims.specs.declared.Who.the-variants.{Told, Claims}
 use Rattle.nwk.specs.declared.judge.Caller.{Caller}
 use Rattle.nwk.specs.declared.judge.Verdict.{Verdict}
 use Rattle.nwk.specs.declared.state.Nwk.{Nwk}

@@ -30,9 +30,9 @@ use Rattle.nib.specs.declared.counters.CounterRow.{CounterRow}
 use Rattle.nib.specs.declared.outgoing.Outgoing.{Outgoing}
 use Rattle.nib.specs.Counters.{counterRows, capacity, pair}
 use Rattle.nib.specs.Keys.{keyFound}
-use Rattle.protection.specs.declared.claims.Claim.{Claim}
-use Rattle.protection.specs.declared.claims.Who.the-variants.{Claims}
-use Rattle.protection.specs.Claims.{spent, nwkWho}
+use Rattle.claims.specs.declared.Claim.{Claim}
+use Rattle.claims.specs.declared.Who.the-variants.{Claims}
+use Rattle.claims.specs.Claims.{spent, nwkWho}
 use Rattle.protection.specs.Heard.{refused, equals, below}
 use Rattle.protection.specs.Protection.{tagSize, payloadSize, vouches, openedOctets}
 use Rattle.nwk.specs.declared.state.Nwk.{Nwk}

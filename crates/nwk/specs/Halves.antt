@@ -18,10 +18,10 @@ use Rattle.nib.specs.declared.counters.Standing.{Standing}
 use Rattle.nib.specs.declared.keys.NetworkKeys.{NetworkKeys}
 use Rattle.nib.specs.Counters.{capacity}
 use Rattle.nib.specs.Keys.{keyFound}
-use Rattle.protection.specs.declared.claims.Claim.{Claim}
-use Rattle.protection.specs.declared.claims.Who.{Who}
-use Rattle.protection.specs.declared.claims.Who.the-variants.{Told, Claims}
-use Rattle.protection.specs.Claims.{numberOf, refuse, nwkWho}
+use Rattle.claims.specs.declared.Claim.{Claim}
+use Rattle.claims.specs.declared.Who.{Who}
+use Rattle.claims.specs.declared.Who.the-variants.{Told, Claims}
+use Rattle.claims.specs.Claims.{numberOf, refuse, nwkWho}
 use Rattle.protection.specs.Heard.{Heard, refused}
 use Rattle.protection.specs.Protection.{level, tagSize, payloadSize, vouches, openedOctets}
 use Rattle.nwk.specs.declared.judge.Caller.{Caller}

@@ -4,8 +4,6 @@ use Prim.Native.Nat.{ℕ}
 use Rattle.answer.specs.declared.Answer.{Answer}
 use Rattle.nib.specs.declared.counters.CounterRow.{CounterRow}
 use Rattle.nib.specs.declared.outgoing.Outgoing.{Outgoing}
-use Rattle.nwk.specs.declared.bridge.OpenedWith.{OpenedWith}
-use Rattle.nwk.specs.declared.bridge.SecuredWith.{SecuredWith}
 use Rattle.nwk.specs.declared.open.OpenedNwk.{OpenedNwk}
 use Rattle.nwk.specs.OpenNwk.{Opened}
 use Rattle.nwk.specs.SecureNwk.{Secured}
@@ -15,10 +13,3 @@ opened r rows frame = record { answer = r .answer; frame = frame; rows = rows; u
 
 abbrev pub secured : Answer → List ℕ → Outgoing → Secured
 secured a out o = record { answer = a; out = out; outgoing = o }
-
--- the same where rows or outgoing counter come back by value
-abbrev pub openedWith : OpenedWith → List ℕ → Opened
-openedWith r frame = record { answer = r .answer; frame = frame; rows = r .rows; used = r .used; active = r .active }
-
-abbrev pub securedWith : SecuredWith → List ℕ → Secured
-securedWith r out = record { answer = r .answer; out = out; outgoing = r .outgoing }

@@ -15,11 +15,11 @@ use Rattle.nib.specs.Active.{turn}
 use Rattle.nib.specs.Counters.{counterRows, capacity, over, pair}
 use Rattle.nib.specs.Keys.{keyFound}
 use Rattle.nib.specs.Pairs.{Pair}
-use Rattle.protection.specs.declared.claims.Claim.{Claim}
-use Rattle.protection.specs.declared.claims.Who.{Who}
-use Rattle.protection.specs.declared.claims.Who.the-variants.{Told, Claims}
+use Rattle.claims.specs.declared.Claim.{Claim}
+use Rattle.claims.specs.declared.Who.{Who}
+use Rattle.claims.specs.declared.Who.the-variants.{Told, Claims}
 use Rattle.nwk.specs.declared.state.Nwk.{Nwk}
-use Rattle.protection.specs.Claims.{numberOf, nwkWho}
+use Rattle.claims.specs.Claims.{numberOf, nwkWho}
 use Rattle.protection.specs.Heard.{Heard, refused, equals, below}
 use Rattle.protection.specs.Protection.{level, tagSize, payloadSize, vouches, openedOctets}
 

@@ -3,18 +3,18 @@ ghost use mathlib.Core.Path.{_≡_};
 ghost use mathlib.Core.Bool.{not, _||_};
 ghost use lib.Dec.{eqb, ltb};
 ghost use Rattle.nib.specs.Counters.{capacity};
-ghost use Rattle.protection.proofs.ClaimLaws.{Sized};
+ghost use Rattle.claims.proofs.ClaimLaws.{Sized};
 ghost use Rattle.nwk.specs.OpenNwk.{activeAfter};
 ghost use Rattle.nwk.specs.Halves.{freshness, judgedFresh, judgedHeard, nwkAsked, callerOf, isOpened, verdictOf, heardFrame};
 use crate::state::Nwk;
 use answer::Answer;
 use answer::Outcome;
 use answer::Refusal;
+use claims::Claim;
+use claims::Who;
 use nib::Known;
 use nib::NetworkKeys;
 use nib::Standing;
-use protection::Claim;
-use protection::Who;
 
 // Whose row is asked for; number, sender and counter are 0 where the frame claims to be nobody's.
 pub(crate) struct Caller {
@@ -51,7 +51,7 @@ fn asked(nwk: Nwk, lent: usize, used: usize, frame: &[u8]) -> Who
     if unfit(nwk, lent, used) {
         return Who::Told(Answer::Refused(Refusal::Unsupported));
     }
-    protection::nwk_who(nwk.keys, frame)
+    claims::nwk_who(nwk.keys, frame)
 }
 
 pub(crate) fn caller_of(nwk: Nwk, lent: usize, used: usize, frame: &[u8]) -> Caller
@@ -69,7 +69,7 @@ pub(crate) fn caller_of(nwk: Nwk, lent: usize, used: usize, frame: &[u8]) -> Cal
             let key_used = claim.key;
             Caller {
                 who,
-                number: protection::number_of(key_used),
+                number: claims::number_of(key_used),
                 sender: claim.sender,
                 counter: claim.counter,
             }
@@ -108,7 +108,7 @@ fn judged_fresh(keys: NetworkKeys, claim: Claim, room: bool, frame: &mut [u8]) -
     if frame.len() - payload < 4 {
         return Answer::Refused(Refusal::Cut);
     }
-    let found = nib::key_of(keys, protection::number_of(key_used));
+    let found = nib::key_of(keys, claims::number_of(key_used));
     let row = found.row;
     let key = row.key;
     if room {
@@ -171,7 +171,7 @@ pub(crate) fn judge(nwk: Nwk, who: Who, standing: Standing, frame: &mut [u8]) ->
         },
         Who::Claims(claim) => {
             let key_used = claim.key;
-            let number = protection::number_of(key_used);
+            let number = claims::number_of(key_used);
             let answer = judged(nwk.keys, claim, standing, frame);
             Verdict {
                 answer,

@@ -1,5 +1,4 @@
 // Opening and securing NWK frames (security/mod.rs of the Rust; document 01, 'Order of checks').
-mod bridge;
 mod finish;
 mod judge;
 mod open;
@@ -7,10 +6,6 @@ mod ready;
 mod secure;
 mod state;
 
-pub use bridge::OpenedWith;
-pub use bridge::SecuredWith;
-pub use bridge::open_with;
-pub use bridge::secure_with;
 pub use open::OpenedNwk;
 pub use open::open_nwk;
 pub use secure::secure_nwk;

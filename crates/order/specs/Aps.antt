@@ -8,7 +8,7 @@ use Rattle.cells.specs.Desk.{Desk, openAll}
 use Rattle.aib.specs.declared.pairs.Pairs.{Pairs}
 use Rattle.aib.specs.Counters.{inUse}
 use Rattle.aib.specs.Pairs.{Pair, pairRows}
-use Rattle.protection.specs.Claims.{apsWho, senderOf}
+use Rattle.claims.specs.Claims.{apsWho, senderOf}
 use Rattle.protection.specs.Heard.{Heard}
 use Rattle.aps.specs.declared.state.Aps.{Aps}
 use Rattle.aps.specs.OpenAps.{openAps}

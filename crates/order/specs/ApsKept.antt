@@ -19,10 +19,10 @@ use Rattle.cells.specs.First.{first}
 use Rattle.aib.specs.Pairs.{Pair, pairRows, mayUse}
 use Rattle.control.specs.declared.KeyIdentifier.{KeyIdentifier}
 use Rattle.header.specs.Aps.{apsTaken, apsLength, isCommand, isSecured}
-use Rattle.protection.specs.declared.claims.Claim.{Claim}
-use Rattle.protection.specs.declared.claims.Who.{Who}
-use Rattle.protection.specs.declared.claims.Who.the-variants.{Told, Claims}
-use Rattle.protection.specs.Claims.{spent, apsWho}
+use Rattle.claims.specs.declared.Claim.{Claim}
+use Rattle.claims.specs.declared.Who.{Who}
+use Rattle.claims.specs.declared.Who.the-variants.{Told, Claims}
+use Rattle.claims.specs.Claims.{spent, apsWho}
 use Rattle.protection.specs.Heard.{refused, equals, below}
 use Rattle.protection.specs.Protection.{tagSize, vouches}
 use Rattle.aps.specs.declared.state.Aps.{Aps}

@@ -16,9 +16,9 @@ use Rattle.cells.specs.Order.{any-order}
 use Rattle.aib.specs.declared.pairs.PairRow.{PairRow}
 use Rattle.aib.specs.Counters.{inUse}
 use Rattle.aib.specs.Pairs.{Pair, pairRows}
-use Rattle.protection.specs.declared.claims.Who.{Who}
-use Rattle.protection.specs.declared.claims.Who.the-variants.{Told, Claims}
-use Rattle.protection.specs.Claims.{apsWho, senderOf}
+use Rattle.claims.specs.declared.Who.{Who}
+use Rattle.claims.specs.declared.Who.the-variants.{Told, Claims}
+use Rattle.claims.specs.Claims.{apsWho, senderOf}
 use Rattle.protection.specs.Heard.{Heard}
 use Rattle.aps.specs.OpenAps.{Opened, apsJudged, apsPlaced, openAps}
 use Rattle.order.specs.Frames.{leaves, says}

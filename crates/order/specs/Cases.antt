@@ -26,9 +26,9 @@ use Rattle.nib.specs.Cases as nib
 use Rattle.aib.specs.declared.pairs.Pairs.{Pairs}
 use Rattle.aib.specs.Counters.{inUse}
 use Rattle.aib.specs.Pairs.{Pair, pairRows}
-use Rattle.protection.specs.declared.claims.Claim.{Claim}
-use Rattle.protection.specs.declared.claims.Who.the-variants.{Claims}
-use Rattle.protection.specs.Claims.{numberOf, nwkWho, apsWho}
+use Rattle.claims.specs.declared.Claim.{Claim}
+use Rattle.claims.specs.declared.Who.the-variants.{Claims}
+use Rattle.claims.specs.Claims.{numberOf, nwkWho, apsWho}
 use Rattle.nwk.specs.declared.state.Nwk.{Nwk}
 use Rattle.nwk.specs.OpenNwk.{activeAfter, nwkJudged, nwkPlaced, nwkUnfit, openNwk}
 use Rattle.nwk.specs.SecureNwk.{secureNwk}

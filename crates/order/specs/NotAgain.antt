@@ -21,10 +21,10 @@ use Rattle.nib.specs.Counters.{capacity}
 use Rattle.nib.specs.Pairs as nib
 use Rattle.aib.specs.Counters.{heard}
 use Rattle.aib.specs.Pairs.{Pair}
-use Rattle.protection.specs.declared.claims.Claim.{Claim}
-use Rattle.protection.specs.declared.claims.Who.{Who}
-use Rattle.protection.specs.declared.claims.Who.the-variants.{Told, Claims}
-use Rattle.protection.specs.Claims.{nwkWho, pairOf, apsWho, senderOf}
+use Rattle.claims.specs.declared.Claim.{Claim}
+use Rattle.claims.specs.declared.Who.{Who}
+use Rattle.claims.specs.declared.Who.the-variants.{Told, Claims}
+use Rattle.claims.specs.Claims.{nwkWho, pairOf, apsWho, senderOf}
 use Rattle.protection.specs.Heard.{Heard, refused, equals, below}
 use Rattle.protection.specs.Protection.{tagSize, vouches}
 use Rattle.nwk.specs.OpenNwk.{unchanged, nwkJudged, nwkPlaced, nwkUnfit, openNwk}

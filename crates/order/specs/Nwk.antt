@@ -11,7 +11,7 @@ use Rattle.nib.specs.declared.keys.NetworkKey.{NetworkKey}
 use Rattle.nib.specs.declared.keys.NetworkKeys.{NetworkKeys}
 use Rattle.nib.specs.Counters.{counterRows}
 use Rattle.nib.specs.Pairs.{Pair}
-use Rattle.protection.specs.Claims.{nwkWho, pairOf}
+use Rattle.claims.specs.Claims.{nwkWho, pairOf}
 use Rattle.protection.specs.Heard.{Heard}
 use Rattle.nwk.specs.declared.state.Nwk.{Nwk}
 use Rattle.nwk.specs.OpenNwk.{openNwk}

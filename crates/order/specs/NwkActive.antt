@@ -33,9 +33,9 @@ use Rattle.nib.specs.Active.{next, turn}
 use Rattle.nib.specs.Keys.{keyRows, answered, keyFound}
 use Rattle.nib.specs.Counters.{pair}
 use Rattle.nib.specs.Pairs.{Pair}
-use Rattle.protection.specs.declared.claims.Who.{Who}
-use Rattle.protection.specs.declared.claims.Who.the-variants.{Told, Claims}
-use Rattle.protection.specs.Claims.{spent, refuse, isNetwork, numberOf, claimed, nwkNamed, nwkAuxiliary, nwkHeader, nwkWho, pairOf}
+use Rattle.claims.specs.declared.Who.{Who}
+use Rattle.claims.specs.declared.Who.the-variants.{Told, Claims}
+use Rattle.claims.specs.Claims.{spent, refuse, isNetwork, numberOf, claimed, nwkNamed, nwkAuxiliary, nwkHeader, nwkWho, pairOf}
 use Rattle.protection.specs.Heard.{Heard}
 use Rattle.nwk.specs.OpenNwk.{Opened, nwkPlaced, activeAfter}
 use Rattle.order.specs.Nwk.{Gateway, numbers, answer, after}

@@ -24,10 +24,10 @@ use Rattle.nib.specs.declared.counters.CounterRow.{CounterRow}
 use Rattle.nib.specs.declared.keys.NetworkKeys.{NetworkKeys}
 use Rattle.nib.specs.Counters.{counterRows, capacity, pair}
 use Rattle.nib.specs.Pairs.{Pair}
-use Rattle.protection.specs.declared.claims.Claim.{Claim}
-use Rattle.protection.specs.declared.claims.Who.{Who}
-use Rattle.protection.specs.declared.claims.Who.the-variants.{Told, Claims}
-use Rattle.protection.specs.Claims.{numberOf, nwkWho}
+use Rattle.claims.specs.declared.Claim.{Claim}
+use Rattle.claims.specs.declared.Who.{Who}
+use Rattle.claims.specs.declared.Who.the-variants.{Told, Claims}
+use Rattle.claims.specs.Claims.{numberOf, nwkWho}
 use Rattle.protection.specs.Heard.{Heard, refused, equals, below}
 use Rattle.protection.specs.Protection.{tagSize, vouches}
 use Rattle.nwk.specs.declared.state.Nwk.{Nwk}

@@ -17,7 +17,7 @@ use Rattle.nib.specs.declared.keys.NetworkKeys.{NetworkKeys}
 use Rattle.nib.specs.Active.{next}
 use Rattle.nib.specs.Counters.{capacity}
 use Rattle.nib.specs.Pairs.{Pair}
-use Rattle.protection.specs.Claims.{nwkWho, pairOf}
+use Rattle.claims.specs.Claims.{nwkWho, pairOf}
 use Rattle.protection.specs.Heard.{Heard}
 use Rattle.order.specs.Frames.{leaves, says}
 use Rattle.order.specs.Nwk.{Gateway, numbers, answer, after, NwkDesk, opened, names, newPairs, Alike}

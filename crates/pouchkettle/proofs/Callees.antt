@@ -13,21 +13,13 @@ use Rattle.answer.proofs.Outcome as O
 use Rattle.answer.proofs.Outcome.Laws as O′
 use Rattle.answer.proofs.Told as D
 use Rattle.answer.proofs.Told.Laws as D′
-use Rattle.nwk.specs.declared.state.Nwk.{Nwk}
-use Rattle.nwk.proofs.state.Nwk as N
-use Rattle.nwk.proofs.state.Nwk.Laws as N′
+use Rattle.nwk.proofs.Values.{av}
 use Rattle.answer.proofs.told_of as tell
 use Rattle.answer.proofs.outcome_number as count
 
--- the one machine value of what the walks of this crate hold
-abbrev pub nv : Nwk → Val
-nv s = only (LL.vals N.the-type N′.the-laws s)
-
+-- the one machine value of each
 abbrev pub dv : Told → Val
 dv t = only (LL.vals D.the-type D′.the-laws t)
-
-abbrev pub av : Answer → Val
-av a = only (LE.vals A′.the-type A″.the-laws a)
 
 abbrev pub cv : Outcome → Val
 cv c = only (LE.vals O.the-type O′.the-laws c)

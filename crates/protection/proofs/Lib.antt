@@ -1,4 +1,2 @@
-pub mod Within
-pub mod ClaimLaws
 pub mod Answers
 pub mod RoundTrip

@@ -20,10 +20,10 @@ use Rattle.nib.specs.declared.keys.NetworkKeys.{NetworkKeys}
 use Rattle.nib.specs.Counters.{capacity, counterRows, pair, empty}
 use Rattle.nib.specs.CounterLaws.{at-le, recorded-new}
 use Rattle.nib.specs.Keys.{keyFound}
-use Rattle.protection.specs.Claims.{nwkWho}
+use Rattle.claims.specs.Claims.{nwkWho}
 use Rattle.protection.specs.Heard.{refused}
-use Rattle.nwk.specs.declared.bridge.OpenedWith.{OpenedWith}
-use Rattle.nwk.specs.Leaves.{openedWith}
+use Rattle.nwk_by_value.specs.declared.OpenedWith.{OpenedWith}
+use Rattle.nwk_by_value.specs.With.{openedWith}
 use Rattle.nwk.specs.OpenNwk.{Opened, openNwk, nwkPlaced, nwkUnfit, unchanged}
 use Rattle.reader.specs.declared.fields.Field.{Field}
 use Rattle.reader.specs.declared.fields.FieldRead.{FieldRead}

@@ -8,7 +8,7 @@ use Rattle.frame.specs.Auxiliary.{auxiliaryAt}
 use Rattle.control.specs.Control.{hasSender, hasNumber, identifierOf}
 use Rattle.header.specs.Nwk.{nwkOf, nwkLength, nwkFixed}
 use Rattle.nib.specs.Keys.{keyFound}
-use Rattle.protection.specs.Claims.{nwkWho}
+use Rattle.claims.specs.Claims.{nwkWho}
 use Rattle.nwk.specs.OpenNwk.{openNwk, nwkPlaced}
 use Rattle.reader.specs.Fields.{fieldAt}
 use Rattle.reader.specs.Reading.{Printed, line, started, activeField, frameField, acted, stepped, printed, linesFrom, lines}

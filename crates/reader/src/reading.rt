@@ -168,7 +168,7 @@ fn open_copy(reader: Reader, body: &[u8]) -> Step
     bytes::copy(body, &mut frame);
     let mut nwk = reader.nwk;
     let rows = reader.rows;
-    let opened = nwk::open_with(nwk, rows, reader.used, &mut frame[..n]);
+    let opened = nwk_by_value::open_with(nwk, rows, reader.used, &mut frame[..n]);
     let after = opened.rows;
     let answer = opened.answer;
     let number = std::num::wrapping_add_u64(reader.frames, 1);

@@ -22,7 +22,7 @@ use answer::Outcome;
 use by_value::RecordedWith;
 use nib::Outgoing;
 use nwk::Nwk;
-use nwk::OpenedWith;
+use nwk_by_value::OpenedWith;
 
 fn nwk_of(case: Case, body: &[u8]) -> Nwk {
     Nwk {
@@ -66,7 +66,7 @@ pub(crate) fn open(case: Case, body: &[u8], space: &mut [u8]) {
     }
     let held = rows_of(case, body);
     let rows = held.rows;
-    let opened = nwk::open_with(nwk_of(case, body), rows, held.used, &mut space[..len]);
+    let opened = nwk_by_value::open_with(nwk_of(case, body), rows, held.used, &mut space[..len]);
     tell_opened(case.show, opened);
     tell_bytes(case.show, part(space, 0, len));
 }
@@ -78,7 +78,7 @@ pub(crate) fn secure(case: Case, body: &[u8], space: &mut [u8]) {
         text(b"bad\n");
         return;
     }
-    let secured = nwk::secure_with(
+    let secured = nwk_by_value::secure_with(
         nwk_of(case, body),
         Outgoing {
             next: case.outgoing,

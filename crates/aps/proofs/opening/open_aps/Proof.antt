@@ -1,7 +1,7 @@
 -- `aps::opening::open_aps` meets its contract. Assumes nothing.
 use mathlib.Core.Path.{sym, ap, _∙_}
 use borrow.Author.Needs.{needs}
-use Rattle.protection.proofs.ClaimLaws.{aps-claim}
+use Rattle.claims.proofs.ClaimLaws.{aps-claim}
 use Rattle.aps.proofs.OpeningLaws.{fit, opens-unfit, opens-told, opens-claim}
 use Rattle.aps.specs.OpenAps.{Opened}
 use Rattle.aps.proofs.opening.open_aps.Statement.{statement}

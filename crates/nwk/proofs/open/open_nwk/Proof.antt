@@ -18,12 +18,12 @@ use Rattle.nwk.specs.Halves.{callerOf, heardFrame, nwkAsked, verdictOf}
 use Rattle.nwk.specs.Leaves.{opened}
 use Rattle.nwk.specs.OpenNwk.{openNwk}
 use Rattle.nwk.proofs.Commit.{sized, opened-recorded, opened-left}
-use Rattle.protection.specs.declared.claims.Claim.{Claim}
-use Rattle.protection.specs.declared.claims.Who.{Who}
-use Rattle.protection.specs.declared.claims.Who.the-variants.{Claims}
-use Rattle.protection.proofs.ClaimLaws.{Sized}
-use Rattle.protection.proofs.claims.Who as P
-use Rattle.protection.proofs.claims.Who.Laws as P′
+use Rattle.claims.specs.declared.Claim.{Claim}
+use Rattle.claims.specs.declared.Who.{Who}
+use Rattle.claims.specs.declared.Who.the-variants.{Claims}
+use Rattle.claims.proofs.ClaimLaws.{Sized}
+use Rattle.claims.proofs.Who as P
+use Rattle.claims.proofs.Who.Laws as P′
 use Rattle.nib.proofs.counters.CounterRow as T
 use Rattle.nib.proofs.counters.Recorded as R
 use Rattle.nib.proofs.counters.Recorded.Laws as R′

@@ -22,6 +22,7 @@ use Rattle.nwk.proofs.open.OpenedNwk as O
 use Rattle.nwk.proofs.open.OpenedNwk.Laws as O′
 use Rattle.nwk.proofs.state.Nwk as N
 use Rattle.nwk.proofs.state.Nwk.Laws as N′
+use Rattle.nwk.proofs.Values.{nv, ov}
 use Rattle.nwk.proofs.open_nwk as open′
 use Rattle.nwk.proofs.open_nwk.Symbol as open-def
 use Rattle.nwk.proofs.open_nwk.Met as open-thm
@@ -29,7 +30,7 @@ use Rattle.pouchkettle.specs.Told.{toldNwk}
 use Rattle.pouchkettle.specs.declared.network.ToldNwk.{ToldNwk}
 use Rattle.pouchkettle.proofs.network.ToldNwk as S
 use Rattle.pouchkettle.proofs.network.ToldNwk.Laws as S′
-use Rattle.pouchkettle.proofs.Callees.{nv, dv, Tell, to-tell, goes-tell, tell-said}
+use Rattle.pouchkettle.proofs.Callees.{dv, Tell, to-tell, goes-tell, tell-said}
 use Rattle.pouchkettle.proofs.network.pouchkettle_open_nwk.Key.{name}
 use Rattle.pouchkettle.proofs.network.pouchkettle_open_nwk as f
 use Rattle.pouchkettle.proofs.network.pouchkettle_open_nwk.Statement as stated
@@ -42,10 +43,6 @@ stayed = (stay-dropped (plain (λ _. N.the-row)) yes, (stay-slice (0 ∷ []) tt 
 module _ {M : Type 1} (𝓤 : URA M) (H : Heap 𝓤) (A : Atoms 𝓤) (mem : Memory → SProp 𝓤) (run : Routine → Fun 𝓤) where
   abbrev Open : Contract 𝓤
   Open = tripleOf 𝓤 H A open′.signature (open′.spec 𝓤 H A mem run)
-
--- the one machine value of each
-abbrev ov : OpenedNwk → Val
-ov r = only (LL.vals O.the-type O′.the-laws r)
 
 abbrev sv : ToldNwk → Val
 sv r = only (LL.vals S.the-type S′.the-laws r)

@@ -23,10 +23,11 @@ use Rattle.nwk.specs.SecureNwk.{Secured, secureNwk}
 use Rattle.nwk.specs.declared.state.Nwk.{Nwk}
 use Rattle.nwk.proofs.state.Nwk as N
 use Rattle.nwk.proofs.state.Nwk.Laws as N′
+use Rattle.nwk.proofs.Values.{nv}
 use Rattle.nwk.proofs.secure_nwk as secure
 use Rattle.nwk.proofs.secure_nwk.Symbol as secure-def
 use Rattle.nwk.proofs.secure_nwk.Met as secure-thm
-use Rattle.pouchkettle.proofs.Callees.{nv, dv, Tell, to-tell, goes-tell, tell-said}
+use Rattle.pouchkettle.proofs.Callees.{dv, Tell, to-tell, goes-tell, tell-said}
 use Rattle.pouchkettle.proofs.network.pouchkettle_secure_nwk.Key.{name}
 use Rattle.pouchkettle.proofs.network.pouchkettle_secure_nwk as f
 use Rattle.pouchkettle.proofs.network.pouchkettle_secure_nwk.Statement as stated
