@@ -105,7 +105,7 @@ pub struct ToldAps {
     pub pairs: Pairs,
 }
 
-extern "C" {
+unsafe extern "C" {
     fn pouchkettle_open_nwk(nwk: Nwk, rows: *mut CounterRow, lent: usize, used: usize, frame: *mut u8, len: usize) -> ToldNwk;
     fn pouchkettle_secure_nwk(nwk: Nwk, outgoing: *mut Outgoing, plain: *const u8, len: usize, out: *mut u8, room: usize) -> Told;
     fn pouchkettle_forget(rows: *mut CounterRow, lent: usize, used: usize, number: u8) -> ToldRows;

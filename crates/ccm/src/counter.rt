@@ -4,7 +4,7 @@ ghost use Rattle.laws.specs.Octets.{_⊕_};
 ghost use Rattle.tables.specs.Rounds.{IsRound};
 ghost use Rattle.aes.specs.Words.{cipherWords};
 ghost use Rattle.ccm.specs.Ccm.{block, counted};
-use crate::octets::xor_into;
+use octets::xor_into;
 
 // The block of flags, nonce and a two-byte number: B_0 and A_i.
 pub(crate) fn make_block(flags: u8, nonce: [u8; 13], k: usize) -> [u8; 16]

@@ -12,7 +12,7 @@ use crate::counter::count_through;
 use crate::counter::tag_of;
 use crate::mac::mac_head;
 use crate::mac::mac_part;
-use crate::octets::same_tag;
+use octets::same;
 
 // Seals the first n bytes of s in place, and puts the tag of m bytes after them. x is the MAC so far.
 fn seal_part(
@@ -90,7 +90,7 @@ fn open_part(
     let y = mac_part(keys, x, &p[..n], table);
     let t = tag_of(keys, nonce, y, table);
     let e = n + m;
-    let ok = same_tag(&t[..m], &s[n..e]);
+    let ok = same(&t[..m], &s[n..e]);
     if ok {
         bytes::copy(&p[..n], s);
         return true;

@@ -3,8 +3,6 @@ mod calls;
 mod counter;
 mod frames;
 mod mac;
-mod octets;
 
 pub use calls::seal;
 pub use calls::unseal;
-pub use octets::xor_into;

@@ -9,8 +9,8 @@ ghost use Rattle.tables.specs.Rounds.{IsRound};
 ghost use Rattle.aes.specs.Words.{cipherWords};
 ghost use Rattle.ccm.specs.Ccm.{chain, head};
 use crate::counter::make_block;
-use crate::octets::least;
-use crate::octets::xor_into;
+use octets::least;
+use octets::xor_into;
 
 // One step: the first 16 bytes of s, or as many as there are, XORed into x, and enciphered.
 fn mac_block(keys: &[u32; 44], x: [u8; 16], s: &[u8], table: &[u64; 256]) -> [u8; 16]

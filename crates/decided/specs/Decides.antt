@@ -34,11 +34,13 @@ use Rattle.answer.proofs.told_of as answer-told-of′
 use Rattle.tables.proofs.substituted as tables-substituted′
 use Rattle.tables.proofs.round_entry as tables-round-entry′
 use Rattle.tables.proofs.tag_length as tables-tag-length′
+use Rattle.octets.proofs.least as octets-least′
+use Rattle.octets.proofs.xor_into as octets-xor-into′
+use Rattle.octets.proofs.same as octets-same′
 use Rattle.aes.proofs.encipher as aes-encipher′
 use Rattle.aes.proofs.encrypt as aes-encrypt′
 use Rattle.aes.proofs.expand_with as aes-expand-with′
 use Rattle.aes.proofs.expand as aes-expand′
-use Rattle.ccm.proofs.xor_into as ccm-xor-into′
 use Rattle.ccm.proofs.seal as ccm-seal′
 use Rattle.ccm.proofs.unseal as ccm-unseal′
 use Rattle.primitives.proofs.hash as primitives-hash′
@@ -155,6 +157,20 @@ pub tables-tag-length : Decides tables-tag-length′.ended tables-tag-length′.
 unfolding Decides
 tables-tag-length κs a z z′ ws ws′ p q = (p ∙ sym q, refl)
 
+-- ---- octets
+
+pub octets-least : Decides octets-least′.ended octets-least′.Reads.Post
+unfolding Decides
+octets-least κs a z z′ ws ws′ p q = (p ∙ sym q, refl)
+
+pub octets-xor-into : Decides octets-xor-into′.ended octets-xor-into′.Reads.Post
+unfolding Decides
+octets-xor-into κs a z z′ ws ws′ p q = (refl, λ i. ((p ∙ sym q) i, (tt, tt)))
+
+pub octets-same : Decides octets-same′.ended octets-same′.Reads.Post
+unfolding Decides
+octets-same κs a z z′ ws ws′ p q = (p ∙ sym q, refl)
+
 -- ---- aes
 
 pub aes-encipher : Decides aes-encipher′.ended aes-encipher′.Reads.Post
@@ -176,10 +192,6 @@ pub aes-expand : (κs : Lfts (aes-expand′.signature .lifetimes)) (a : Args aes
 aes-expand κs a z z′ ws ws′ h l p q = (same-words z z′ h l (p ∙ sym q), refl)
 
 -- ---- ccm
-
-pub ccm-xor-into : Decides ccm-xor-into′.ended ccm-xor-into′.Reads.Post
-unfolding Decides
-ccm-xor-into κs a z z′ ws ws′ p q = (refl, λ i. ((p ∙ sym q) i, (tt, tt)))
 
 pub ccm-seal : Decides ccm-seal′.ended ccm-seal′.Reads.Post
 unfolding Decides

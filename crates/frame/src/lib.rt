@@ -1,7 +1,7 @@
 // The auxiliary header and the nonce (ZB 4.5.1, 4.5.2.2; document 01, Layouts).
 mod auxiliary;
 mod nonces;
-mod octets;
+mod numbers;
 
 pub use auxiliary::Auxiliary;
 pub use auxiliary::AuxiliaryRead;
@@ -11,4 +11,4 @@ pub use auxiliary::auxiliary_length;
 pub use auxiliary::read;
 pub use auxiliary::write;
 pub use nonces::nonce;
-pub use octets::number_at;
+pub use numbers::number_at;

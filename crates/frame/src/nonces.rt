@@ -1,7 +1,7 @@
 // The nonce of a frame (ZB 4.5.2.2).
 ghost use mathlib.Core.Path.{_≡_};
 ghost use Rattle.frame.specs.Nonce.{nonceOf};
-use crate::octets::put;
+use crate::numbers::put;
 use control::Control;
 
 // The control byte goes in as it is given: the caller has filled the level in.

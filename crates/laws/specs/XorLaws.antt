@@ -1,7 +1,7 @@
 -- Laws of XOR: of numbers (it associates and cancels), of strings of octets, and the test that all differences are zero.
 -- Assumes nothing.
 use mathlib.Core.Path.{_≡_, refl, sym, ap, ap₂, _∙_}
-use mathlib.Core.Bool.{true, _&&_, and-assoc, and-eq-true-iff, false≢true}
+use mathlib.Core.Bool.{true, false, _&&_, and-assoc, and-false, and-eq-true-iff, false≢true}
 use mathlib.Core.List.{List, [], _∷_, _++_, append-assoc, append-nil}
 use Prim.Native.Nat.{ℕ, zero, suc, _+_, _*_, _/_, _%_, _<_, _≤_, min}
 use native.Mathlib.Decide.{decLe, ℕ-discrete}
@@ -166,6 +166,14 @@ unfolding same
 same-nil [] [] e h = refl
 same-nil [] (b ∷ y) e h = absurd (suc-ne-zero (length y) (sym e))
 same-nil (a ∷ x) y e h = absurd (suc-ne-zero (length x) h)
+
+-- strings of two lengths differ
+pub same-length : (x y : List ℕ) → (length x ≡ length y → ⊥) → same x y ≡ false
+unfolding same
+same-length [] [] h = absurd (h refl)
+same-length [] (b ∷ y) h = refl
+same-length (a ∷ x) [] h = refl
+same-length (a ∷ x) (b ∷ y) h = rw (same-length x y (λ e. h (ap suc e)), and-false (eqb a b))
 
 pub same-refl : (x : List ℕ) → same x x ≡ true
 unfolding same

@@ -15,19 +15,19 @@ fn from(s: &[u8], at: usize) -> &[u8] {
 
 fn key_of(s: &[u8]) -> [u8; 16] {
     let mut key = [0u8; 16];
-    ccm::xor_into(&mut key, from(s, 6));
+    octets::xor_into(&mut key, from(s, 6));
     key
 }
 
 fn nonce_of(s: &[u8]) -> [u8; 13] {
     let mut nonce = [0u8; 13];
-    ccm::xor_into(&mut nonce, from(s, 22));
+    octets::xor_into(&mut nonce, from(s, 22));
     nonce
 }
 
 fn frame_of(s: &[u8]) -> [u8; 64] {
     let mut frame = [0u8; 64];
-    ccm::xor_into(&mut frame, from(s, HEAD));
+    octets::xor_into(&mut frame, from(s, HEAD));
     frame
 }
 

@@ -28,7 +28,7 @@ fn masked(block: [u8; 16], byte: u8) -> [u8; 16]
 {
     let pad = [byte; 16];
     let mut x = block;
-    ccm::xor_into(&mut x, &pad);
+    octets::xor_into(&mut x, &pad);
     x
 }
 

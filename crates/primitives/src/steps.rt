@@ -9,7 +9,7 @@ pub(crate) fn first_block(s: &[u8]) -> [u8; 16]
     ensures { λ r. ⌜ r ≡ filled (now (s .entry)) ⌝ }
 {
     let mut x = [0u8; 16];
-    ccm::xor_into(&mut x, s);
+    octets::xor_into(&mut x, s);
     x
 }
 
@@ -26,7 +26,7 @@ pub(crate) fn step(
 {
     let keys = aes::expand_with(substitution, h);
     let mut y = aes::encipher(round, &keys, x);
-    ccm::xor_into(&mut y, &x);
+    octets::xor_into(&mut y, &x);
     y
 }
 

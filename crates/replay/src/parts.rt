@@ -58,12 +58,12 @@ pub(crate) fn part(s: &[u8], from: usize, to: usize) -> &[u8] {
 
 pub(crate) fn thirteen(s: &[u8]) -> [u8; 13] {
     let mut block = [0u8; 13];
-    ccm::xor_into(&mut block, s);
+    octets::xor_into(&mut block, s);
     block
 }
 
 pub(crate) fn sixteen(s: &[u8]) -> [u8; 16] {
     let mut block = [0u8; 16];
-    ccm::xor_into(&mut block, s);
+    octets::xor_into(&mut block, s);
     block
 }

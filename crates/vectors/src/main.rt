@@ -92,13 +92,13 @@ fn print_digest(digest: Digest) {
 // The first sixteen bytes, zeros where there are fewer.
 fn sixteen(s: &[u8]) -> [u8; 16] {
     let mut out = [0u8; 16];
-    ccm::xor_into(&mut out, s);
+    octets::xor_into(&mut out, s);
     out
 }
 
 fn thirteen(s: &[u8]) -> [u8; 13] {
     let mut out = [0u8; 13];
-    ccm::xor_into(&mut out, s);
+    octets::xor_into(&mut out, s);
     out
 }
 
@@ -130,7 +130,7 @@ fn run_ccm(key: &[u8], nonce: [u8; 13], at: usize, data: &[u8], tag: usize) {
     let n = end - at;
     let keys = aes::expand(sixteen(key));
     let mut frame = [0u8; 144];
-    ccm::xor_into(&mut frame, data);
+    octets::xor_into(&mut frame, data);
     print_text(b"sealed ");
     print_outcome(ccm::seal(&keys, nonce, tag, &mut frame, at, n));
     print_bytes(part(

@@ -36,11 +36,8 @@ slice-aggregate-mac-part c =
     let w = c .before .before .count-through .last .1 .1 .0 ++ drop (a .n) (c .before .before .before .before .before .copy .last .1 .0) in
     let h : a .n ≡ length (take (a .n) w) = simp (length-take, length-append, length-drop) (omega arith) in h
 
-slice-aggregate-same-tag : tie.Need-slice-aggregate-same-tag
-slice-aggregate-same-tag c = simp length-take (omega arith)
-
-same-tag-requires : tie.Need-same-tag-requires
-same-tag-requires c κs = simp (length-take, length-drop) (omega arith)
+slice-aggregate-same : tie.Need-slice-aggregate-same
+slice-aggregate-same c = simp length-take (omega arith)
 
 array-share-prefix-p-2 : tie.Need-array-share-prefix-p-2
 array-share-prefix-p-2 c =
@@ -75,7 +72,7 @@ returns c =
     let k = c .before .before .before .before .before .before .before .before .before .before .before .before .before .before .before .before .before .copy in
     let q = c .before .before .before .before .before .before .before .before .before .before .before .before .before .before .count-through in
     let p = aside E (a .nonce) s _ (k .last .1 .0) (q .last .1 .1 .0) (a .n) h (k .ensures .1) (q .kept .1 .1 .0) (q .ensures) in
-    let v = vouched-aside E (a .m) (a .nonce) (a .x) (a .n) s _ _ _ _ p (c .before .before .before .before .before .before .before .before .before .before .before .mac-part .ensures) (c .before .before .before .before .before .before .before .before .before .before .tag-of .ensures) (c .before .before .before .before .before .before .same-tag .ensures) in
+    let v = vouched-aside E (a .m) (a .nonce) (a .x) (a .n) s _ _ _ _ p (c .before .before .before .before .before .before .before .before .before .before .before .mac-part .ensures) (c .before .before .before .before .before .before .before .before .before .before .tag-of .ensures) (c .before .before .before .before .before .before .same .ensures) in
     (sym (c .before .before .before .before .before .if1 .taken) ∙ v, c .before .before .copy2 .ensures .1 ∙ placed E (a .nonce) (a .n) s _ h p)
 
 returns-2 : tie.Need-returns-2
@@ -87,7 +84,7 @@ returns-2 c =
     let k = c .before .before .before .before .before .before .before .before .before .before .before .before .copy in
     let q = c .before .before .before .before .before .before .before .before .before .count-through in
     let p = aside E (a .nonce) s _ (k .last .1 .0) (q .last .1 .1 .0) (a .n) h (k .ensures .1) (q .kept .1 .1 .0) (q .ensures) in
-    let v = vouched-aside E (a .m) (a .nonce) (a .x) (a .n) s _ _ _ _ p (c .before .before .before .before .before .before .mac-part .ensures) (c .before .before .before .before .before .tag-of .ensures) (c .before .same-tag .ensures) in
+    let v = vouched-aside E (a .m) (a .nonce) (a .x) (a .n) s _ _ _ _ p (c .before .before .before .before .before .before .mac-part .ensures) (c .before .before .before .before .before .tag-of .ensures) (c .before .same .ensures) in
     (sym (c .if1 .left) ∙ v, refl)
 
 pub open-part-spec : {M : Type 1} → statement M
@@ -107,11 +104,11 @@ open-part-spec =
     (λ c κs. search needs)
     (λ c. search needs)
     (λ c. search needs)
-    slice-aggregate-same-tag
+    slice-aggregate-same
     (λ c. search needs)
     (λ c. search needs)
     (λ c. search needs)
-    same-tag-requires
+    (λ c κs. search needs)
     array-share-prefix-p-2
     slice-aggregate-copy-3
     copy-requires-2

@@ -1,11 +1,10 @@
-// Strings of bytes.
+// Strings of octets: XOR, and whether two are the same.
 ghost use mathlib.Core.Path.{_≡_};
 ghost use Prim.Native.Nat.{min};
-ghost use lib.ListN.{length};
 ghost use Rattle.laws.specs.Octets.{_⊕_, same};
 
 // The smaller of two lengths.
-pub(crate) fn least(a: usize, b: usize) -> usize
+pub fn least(a: usize, b: usize) -> usize
     ensures { λ r. ⌜ r ≡ min a b ⌝ }
 {
     if a < b { a } else { b }
@@ -23,11 +22,13 @@ pub fn xor_into(dst: &mut [u8], src: &[u8])
     }
 }
 
-// Whether two tags of one length are the same: the differences of all bytes are combined, and looked at once, at the end.
-pub(crate) fn same_tag(a: &[u8], b: &[u8]) -> bool
-    requires { ⌜ length (now a) ≡ length (now b) ⌝ }
+// Whether two strings are the same. Where they are as long, the differences of all bytes are combined, and looked at once, at the end.
+pub fn same(a: &[u8], b: &[u8]) -> bool
     ensures { λ r. ⌜ r ≡ same (now (a .entry)) (now (b .entry)) ⌝ }
 {
+    if a.len() != b.len() {
+        return false;
+    }
     let mut d: u8 = 0;
     let mut j = 0;
     while j < a.len() {

@@ -1,4 +1,4 @@
--- `frame::octets::put` meets its contract: what is stored and what is left to store make the whole. Assumes nothing.
+-- `frame::numbers::put` meets its contract: what is stored and what is left to store make the whole. Assumes nothing.
 use mathlib.Core.Path.{_≡_, _∙_}
 use Prim.Native.Nat.{_+_, _-_, _≤_}
 use native.Mathlib.Nat.{add-zero, sub-zero}
@@ -8,8 +8,8 @@ use lib.ListN.{length, length-set}
 use lib.Seq.{sets}
 use Rattle.laws.specs.Numbers.{low}
 use Rattle.frame.proofs.Turns.{sets-step}
-use Rattle.frame.proofs.octets.put.Statement.{statement}
-use Rattle.frame.proofs.octets.put.Tie as tie
+use Rattle.frame.proofs.numbers.put.Statement.{statement}
+use Rattle.frame.proofs.numbers.put.Tie as tie
 
 abbrev Inv-loop : tie.InvT-loop
 Inv-loop s₀ at count number rest₀ i₀ s rest i = (i ≤ count) × (length s ≡ length s₀) × (sets s (at + i) (low (count - i) rest) ≡ sets s₀ at (low count number))

@@ -1,4 +1,4 @@
--- `frame::octets::number_at` meets its contract: the octets passed, from the last one down, are the field from there. Assumes nothing.
+-- `frame::numbers::number_at` meets its contract: the octets passed, from the last one down, are the field from there. Assumes nothing.
 use mathlib.Core.Path.{_≡_}
 use Prim.Native.Nat.{_+_, _-_, _^_, _≤_, _<_}
 use native.Mathlib.Nat.{sub-self}
@@ -7,8 +7,8 @@ use borrow.Author.Needs.{needs}
 use lib.ListN.{getD}
 use Rattle.laws.specs.Numbers.{field, value}
 use Rattle.frame.proofs.Turns.{field-back, back-small, below-last}
-use Rattle.frame.proofs.octets.number_at.Statement.{statement}
-use Rattle.frame.proofs.octets.number_at.Tie as tie
+use Rattle.frame.proofs.numbers.number_at.Statement.{statement}
+use Rattle.frame.proofs.numbers.number_at.Tie as tie
 
 abbrev Inv-loop : tie.InvT-loop
 Inv-loop s at count number₀ i₀ number i = (i ≤ count) × (number ≡ field s (at + i) (count - i)) × (number < 256 ^ (count - i))

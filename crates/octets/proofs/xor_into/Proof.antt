@@ -1,4 +1,4 @@
--- `ccm::octets::xor_into` meets its contract. The invariant: what is done, followed by what is left XOR what is left of `src`, is the whole XOR.
+-- `octets::xor_into` meets its contract. The invariant: what is done, followed by what is left XOR what is left of `src`, is the whole XOR.
 -- Assumes nothing.
 use mathlib.Core.Path.{_≡_, sym, _∙_}
 use Prim.Native.Nat.{_-_, _≤_, _<_, min}
@@ -8,8 +8,8 @@ use lib.ListN.{length, take, drop, length-set}
 use borrow.Author.Needs.{needs}
 use Rattle.laws.specs.Octets.{_⊕_}
 use Rattle.laws.specs.XorLaws.{xor-turn, xor-done}
-use Rattle.ccm.proofs.octets.xor_into.Statement.{statement}
-use Rattle.ccm.proofs.octets.xor_into.Tie as tie
+use Rattle.octets.proofs.xor_into.Statement.{statement}
+use Rattle.octets.proofs.xor_into.Tie as tie
 
 abbrev Inv-loop : tie.InvT-loop
 Inv-loop dst₀ src n j₀ dst j =
