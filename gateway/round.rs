@@ -58,8 +58,22 @@ fn application() {
     assert_eq!(open_aps(Aps { level: 5, own: GATEWAY }, pairs(LOGGER), &mut forged[..29]).told.number, 5);
 }
 
+// A device that is not known gets a row of its own: every field of it is looked at.
+fn newcomer() {
+    let plain = [0x20, 1, 6, 0, 4, 1, 1, 9, b'o', b'p', b'e', b'n'];
+    let key = *b"ZigBeeAlliance09";
+    let mut known = pairs(GATEWAY);
+    known.rows[0].key = key;
+    let mut frame = [0; 29];
+    assert_eq!(secure_aps(Aps { level: 5, own: LOGGER }, known, GATEWAY, true, &plain, &mut frame).told.number, 0);
+    let opened = open_aps(Aps { level: 5, own: GATEWAY }, Pairs::default(), &mut frame);
+    let row = PairRow { device: LOGGER, attribute: 2, key, kind: 1, outgoing: 0, incoming: 8 };
+    assert_eq!((opened.told.number, opened.pairs.used, opened.pairs.rows[0]), (0, 1, row));
+}
+
 fn main() {
     network();
     application();
+    newcomer();
     println!("the exported calls, done and refused: as promised");
 }
