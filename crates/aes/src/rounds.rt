@@ -8,17 +8,10 @@ ghost use Rattle.tables.specs.Rounds.{IsRound};
 ghost use Rattle.aes.specs.Cipher.{subBytes, shiftRows, mixColumn, mixColumns, addRoundKey, cipher};
 ghost use Rattle.aes.specs.Schedule.{xorWord};
 ghost use Rattle.aes.specs.Words.{bytes, byteOf, four, keyBytes};
+use crate::words::State;
 use crate::words::joined;
 use crate::words::listed;
 use crate::words::xored;
-
-// A state: its four columns.
-struct State {
-    a: u32,
-    b: u32,
-    c: u32,
-    d: u32,
-}
 
 fn low(x: u64) -> u32
     ensures { λ r. ⌜ r ≡ x % 4294967296 ⌝ }

@@ -1,11 +1,15 @@
 // FIPS 197, 5.2: key expansion.
 ghost use mathlib.Core.Path.{_≡_};
-ghost use Prim.Native.Nat.{_<_, _≤_};
+ghost use mathlib.Core.List.{_++_};
+ghost use Prim.Native.Nat.{_+_, _*_, _<_, _≤_};
+ghost use lib.ListN.{length};
 ghost use Rattle.tables.specs.Field.{sbox, roundConstant};
 ghost use Rattle.tables.specs.Rounds.{IsSubstitution};
-ghost use Rattle.aes.specs.Schedule.{nextWord, keyExpansion};
-ghost use Rattle.aes.specs.Words.{bytes, keyBytes};
+ghost use Rattle.aes.specs.Schedule.{xorWord, rotWord, subWord, rcon, keyExpansion};
+ghost use Rattle.aes.specs.Words.{bytes, four, wordBytes, keyBytes};
+use crate::words::State;
 use crate::words::joined;
+use crate::words::taken;
 use crate::words::xored;
 
 fn round_constant(n: usize) -> u8
@@ -23,40 +27,61 @@ fn substituted(table: &[u8; 256], x: u32) -> u8
     table[x as usize]
 }
 
-// Word i, from the words before it.
-fn next_word(table: &[u8; 256], w: &[u32; 44], i: usize) -> u32
+// What a round key's first word is XORed with, for the last word q of the round key before it: rotated, substituted, and round
+// constant n added.
+fn turned(table: &[u8; 256], q: u32, n: usize) -> u32
     requires { ⌜ IsSubstitution (now table) ⌝ }
-    requires { ⌜ (4 ≤ i) × (i < 44) ⌝ }
-    ensures { λ r. ⌜ bytes r ≡ nextWord (keyBytes (now (w .entry))) i ⌝ }
+    requires { ⌜ n < 10 ⌝ }
+    ensures { λ r. ⌜ bytes r ≡ xorWord (subWord (rotWord (bytes q))) (rcon (n + 1)) ⌝ }
 {
-    let p = w[i - 4];
-    let q = w[i - 1];
-    if i % 4 == 0 {
-        let c = round_constant(i / 4 - 1);
-        let m = joined(
-            substituted(table, q / 256 % 256) ^ c,
-            substituted(table, q / 65536 % 256),
-            substituted(table, q / 16777216 % 256),
-            substituted(table, q % 256),
-        );
-        return xored(p, m);
-    }
-    xored(p, q)
+    joined(
+        substituted(table, q / 256 % 256) ^ round_constant(n),
+        substituted(table, q / 65536 % 256),
+        substituted(table, q / 16777216 % 256),
+        substituted(table, q % 256),
+    )
 }
 
-// The eleven round keys, one after the other, with the substitution table lent.
+// Round key n + 1, from round key n.
+fn next_key(table: &[u8; 256], k: State, n: usize) -> State
+    requires { ⌜ IsSubstitution (now table) ⌝ }
+    requires { ⌜ n < 10 ⌝ }
+    ensures { λ r. ⌜ (bytes (r .a) ≡ xorWord (bytes (k .a)) (xorWord (subWord (rotWord (bytes (k .d)))) (rcon (n + 1))))
+        × (bytes (r .b) ≡ xorWord (bytes (k .b)) (bytes (r .a)))
+        × (bytes (r .c) ≡ xorWord (bytes (k .c)) (bytes (r .b)))
+        × (bytes (r .d) ≡ xorWord (bytes (k .d)) (bytes (r .c))) ⌝ }
+{
+    let a = xored(k.a, turned(table, k.d, n));
+    let b = xored(k.b, a);
+    let c = xored(k.c, b);
+    let d = xored(k.d, c);
+    State { a, b, c, d }
+}
+
+// Round key n, put after those before it.
+fn put(w: &mut [u32], n: usize, k: State)
+    requires { ⌜ (n < 11) × (4 * n + 4 ≤ length (now w)) ⌝ }
+    ensures { λ _. ⌜ wordBytes (now (w .exit)) (4 * n + 4) ≡ wordBytes (now (w .entry)) (4 * n) ++ four (k .a) (k .b) (k .c) (k .d) ⌝ }
+{
+    w[4 * n] = k.a;
+    w[4 * n + 1] = k.b;
+    w[4 * n + 2] = k.c;
+    w[4 * n + 3] = k.d;
+}
+
+// The eleven round keys, one after the other, with the substitution table lent. The last one is kept beside the array: reading
+// back what was just stored is slower.
 pub fn expand_with(table: &[u8; 256], key: [u8; 16]) -> [u32; 44]
     requires { ⌜ IsSubstitution (now table) ⌝ }
     ensures { λ r. ⌜ keyBytes r ≡ keyExpansion key ⌝ }
 {
     let mut w = [0u32; 44];
-    for j in 0..4 {
-        w[j] = joined(key[4 * j], key[4 * j + 1], key[4 * j + 2], key[4 * j + 3]);
+    let mut k = taken(key);
+    for n in 0..10 {
+        put(&mut w, n, k);
+        k = next_key(table, k, n);
     }
-    for i in 4..44 {
-        let v = next_word(table, &w, i);
-        w[i] = v;
-    }
+    put(&mut w, 10, k);
     w
 }
 

@@ -5,6 +5,14 @@ ghost use Prim.Native.Nat.{_%_};
 ghost use Rattle.aes.specs.Schedule.{xorWord};
 ghost use Rattle.aes.specs.Words.{bytes, four};
 
+// Four words: the columns of a state, or a round key.
+pub(crate) struct State {
+    pub a: u32,
+    pub b: u32,
+    pub c: u32,
+    pub d: u32,
+}
+
 pub(crate) fn wide(x: u8) -> u32
     ensures { λ r. ⌜ r ≡ x ⌝ }
 {
@@ -28,6 +36,18 @@ pub(crate) fn xored(a: u32, b: u32) -> u32
     ensures { λ r. ⌜ bytes r ≡ xorWord (bytes a) (bytes b) ⌝ }
 {
     a ^ b
+}
+
+// The four columns of a block.
+pub(crate) fn taken(block: [u8; 16]) -> State
+    ensures { λ r. ⌜ four (r .a) (r .b) (r .c) (r .d) ≡ block ⌝ }
+{
+    State {
+        a: joined(block[0], block[1], block[2], block[3]),
+        b: joined(block[4], block[5], block[6], block[7]),
+        c: joined(block[8], block[9], block[10], block[11]),
+        d: joined(block[12], block[13], block[14], block[15]),
+    }
 }
 
 // The sixteen bytes of four columns.
