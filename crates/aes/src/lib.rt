@@ -5,6 +5,11 @@ mod schedule;
 mod words;
 
 pub use rounds::encipher;
+pub use rounds::encipher_state;
 pub use rounds::encrypt;
 pub use schedule::expand;
 pub use schedule::expand_with;
+pub use words::State;
+pub use words::added;
+pub use words::joined;
+pub use words::listed;

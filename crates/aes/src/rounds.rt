@@ -11,6 +11,7 @@ ghost use Rattle.aes.specs.Words.{bytes, byteOf, four, keyBytes};
 use crate::words::State;
 use crate::words::joined;
 use crate::words::listed;
+use crate::words::taken;
 use crate::words::xored;
 
 fn low(x: u64) -> u32
@@ -77,36 +78,37 @@ fn round(table: &[u64; 256], keys: &[u32; 44], s: State, n: usize) -> State
     }
 }
 
-// A block, and the first round key added to it.
-fn begun(keys: &[u32; 44], block: [u8; 16]) -> State
-    ensures { λ r. ⌜ four (r .a) (r .b) (r .c) (r .d) ≡ addRoundKey block (keyBytes (now (keys .entry))) 0 ⌝ }
+// A state, and the first round key added to it.
+fn begun(keys: &[u32; 44], s: State) -> State
+    ensures { λ r. ⌜ four (r .a) (r .b) (r .c) (r .d) ≡ addRoundKey (four (s .a) (s .b) (s .c) (s .d)) (keyBytes (now (keys .entry))) 0 ⌝ }
 {
     State {
-        a: xored(joined(block[0], block[1], block[2], block[3]), keys[0]),
-        b: xored(joined(block[4], block[5], block[6], block[7]), keys[1]),
-        c: xored(joined(block[8], block[9], block[10], block[11]), keys[2]),
-        d: xored(joined(block[12], block[13], block[14], block[15]), keys[3]),
+        a: xored(s.a, keys[0]),
+        b: xored(s.b, keys[1]),
+        c: xored(s.c, keys[2]),
+        d: xored(s.d, keys[3]),
     }
 }
 
 // The last round.
-fn ended(table: &[u64; 256], keys: &[u32; 44], s: State) -> [u8; 16]
+fn ended(table: &[u64; 256], keys: &[u32; 44], s: State) -> State
     requires { ⌜ IsRound (now table) ⌝ }
-    ensures { λ r. ⌜ r ≡ addRoundKey (shiftRows (subBytes (four (s .a) (s .b) (s .c) (s .d)))) (keyBytes (now (keys .entry))) 10 ⌝ }
+    ensures { λ r. ⌜ four (r .a) (r .b) (r .c) (r .d) ≡ addRoundKey (shiftRows (subBytes (four (s .a) (s .b) (s .c) (s .d)))) (keyBytes (now (keys .entry))) 10 ⌝ }
 {
-    let a = last_column(table, s.a, s.b, s.c, s.d, keys[40]);
-    let b = last_column(table, s.b, s.c, s.d, s.a, keys[41]);
-    let c = last_column(table, s.c, s.d, s.a, s.b, keys[42]);
-    let d = last_column(table, s.d, s.a, s.b, s.c, keys[43]);
-    listed(a, b, c, d)
+    State {
+        a: last_column(table, s.a, s.b, s.c, s.d, keys[40]),
+        b: last_column(table, s.b, s.c, s.d, s.a, keys[41]),
+        c: last_column(table, s.c, s.d, s.a, s.b, keys[42]),
+        d: last_column(table, s.d, s.a, s.b, s.c, keys[43]),
+    }
 }
 
-// One block, with the round table lent. The nine rounds are written out: a loop is slower.
-pub fn encipher(table: &[u64; 256], keys: &[u32; 44], block: [u8; 16]) -> [u8; 16]
+// One block as four columns, with the round table lent. The nine rounds are written out: a loop is slower.
+pub fn encipher_state(table: &[u64; 256], keys: &[u32; 44], s: State) -> State
     requires { ⌜ IsRound (now table) ⌝ }
-    ensures { λ r. ⌜ r ≡ cipher (keyBytes (now (keys .entry))) block ⌝ }
+    ensures { λ r. ⌜ four (r .a) (r .b) (r .c) (r .d) ≡ cipher (keyBytes (now (keys .entry))) (four (s .a) (s .b) (s .c) (s .d)) ⌝ }
 {
-    let s0 = begun(keys, block);
+    let s0 = begun(keys, s);
     let s1 = round(table, keys, s0, 1);
     let s2 = round(table, keys, s1, 2);
     let s3 = round(table, keys, s2, 3);
@@ -117,6 +119,14 @@ pub fn encipher(table: &[u64; 256], keys: &[u32; 44], block: [u8; 16]) -> [u8; 1
     let s8 = round(table, keys, s7, 8);
     let s9 = round(table, keys, s8, 9);
     ended(table, keys, s9)
+}
+
+// One block as sixteen bytes.
+pub fn encipher(table: &[u64; 256], keys: &[u32; 44], block: [u8; 16]) -> [u8; 16]
+    requires { ⌜ IsRound (now table) ⌝ }
+    ensures { λ r. ⌜ r ≡ cipher (keyBytes (now (keys .entry))) block ⌝ }
+{
+    listed(encipher_state(table, keys, taken(block)))
 }
 
 // One block, with nothing asked of the caller.

@@ -2,11 +2,12 @@
 ghost use mathlib.Core.Path.{_≡_};
 ghost use mathlib.Core.List.{[], _∷_};
 ghost use Prim.Native.Nat.{_%_};
+ghost use Rattle.laws.specs.Octets.{_⊕_};
 ghost use Rattle.aes.specs.Schedule.{xorWord};
 ghost use Rattle.aes.specs.Words.{bytes, four};
 
 // Four words: the columns of a state, or a round key.
-pub(crate) struct State {
+pub struct State {
     pub a: u32,
     pub b: u32,
     pub c: u32,
@@ -25,7 +26,7 @@ pub(crate) fn byte(x: u32) -> u8
     (x % 256) as u8
 }
 
-pub(crate) fn joined(a: u8, b: u8, c: u8, d: u8) -> u32
+pub fn joined(a: u8, b: u8, c: u8, d: u8) -> u32
     ensures { λ r. ⌜ bytes r ≡ a ∷ b ∷ c ∷ d ∷ [] ⌝ }
 {
     wide(a) + wide(b) * 256 + wide(c) * 65536 + wide(d) * 16777216
@@ -51,25 +52,37 @@ pub(crate) fn taken(block: [u8; 16]) -> State
 }
 
 // The sixteen bytes of four columns.
-pub(crate) fn listed(a: u32, b: u32, c: u32, d: u32) -> [u8; 16]
-    ensures { λ r. ⌜ r ≡ four a b c d ⌝ }
+pub fn listed(s: State) -> [u8; 16]
+    ensures { λ r. ⌜ r ≡ four (s .a) (s .b) (s .c) (s .d) ⌝ }
 {
     [
-        byte(a),
-        byte(a / 256),
-        byte(a / 65536),
-        byte(a / 16777216),
-        byte(b),
-        byte(b / 256),
-        byte(b / 65536),
-        byte(b / 16777216),
-        byte(c),
-        byte(c / 256),
-        byte(c / 65536),
-        byte(c / 16777216),
-        byte(d),
-        byte(d / 256),
-        byte(d / 65536),
-        byte(d / 16777216),
+        byte(s.a),
+        byte(s.a / 256),
+        byte(s.a / 65536),
+        byte(s.a / 16777216),
+        byte(s.b),
+        byte(s.b / 256),
+        byte(s.b / 65536),
+        byte(s.b / 16777216),
+        byte(s.c),
+        byte(s.c / 256),
+        byte(s.c / 65536),
+        byte(s.c / 16777216),
+        byte(s.d),
+        byte(s.d / 256),
+        byte(s.d / 65536),
+        byte(s.d / 16777216),
     ]
+}
+
+// Two states, added byte by byte.
+pub fn added(s: State, t: State) -> State
+    ensures { λ r. ⌜ four (r .a) (r .b) (r .c) (r .d) ≡ four (s .a) (s .b) (s .c) (s .d) ⊕ four (t .a) (t .b) (t .c) (t .d) ⌝ }
+{
+    State {
+        a: xored(s.a, t.a),
+        b: xored(s.b, t.b),
+        c: xored(s.c, t.c),
+        d: xored(s.d, t.d),
+    }
 }

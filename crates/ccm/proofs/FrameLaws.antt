@@ -3,16 +3,16 @@ use mathlib.Core.Path.{_≡_, ap, ap₂, _∙_}
 use Prim.Native.Nat.{ℕ, _+_, _-_, _≤_}
 use native.Mathlib.Nat.{add-assoc}
 use native.Mathlib.Omega.{arith}
-use mathlib.Core.Bool.{Bool}
+use mathlib.Core.Bool.{Bool, cond}
 use mathlib.Core.List.{List, _++_}
 use lib.ListN.{length, take, drop, length-drop}
 use lib.Seq.{take-at, take-length, drop-drop, length-take-le}
 use Rattle.laws.specs.Octets.{_⊕_, same}
 use Rattle.laws.specs.Blocks.{blocks}
-use Rattle.ccm.specs.Frame.{sealedFrame}
-use Rattle.ccm.specs.Ccm.{block, chain, counted, head, sealedFrom, sealed, tagFrom, vouchedFrom}
+use Rattle.ccm.specs.Frame.{sealedFrame, openedFrame, vouchedFrame}
+use Rattle.ccm.specs.Ccm.{block, chain, counted, head, sealedFrom, sealed, tagFrom, vouchedFrom, vouched}
 use Rattle.laws.specs.XorLaws.{xor-take}
-use Rattle.laws.specs.Parts.{part-rest, put-rest}
+use Rattle.laws.specs.Parts.{part-rest, put-rest, put-cond}
 use Rattle.ccm.proofs.Laws.{length-counted}
 
 module _ (E : List ℕ → List ℕ) where
@@ -23,6 +23,21 @@ module _ (E : List ℕ → List ℕ) where
   frame-sealed M n at k s x y h e q =
       let l : length (take k (drop at s)) ≡ k = length-take-le k (drop at s) (simp length-drop (omega arith)) in
       cc (put-rest at s y, part-rest at s, drop-drop (k + M) at s, add-assoc at k M, l)
+
+  -- the same of a frame opened: whether its tag is right, and what is left
+  pub frame-vouched : (M : ℕ) (n : List ℕ) (at k : ℕ) (s x : List ℕ) (r : Bool) → at + k ≤ length s → x ≡ head E M n (take at s) k
+      → r ≡ vouchedFrom E M n x (take k (take (length s - at) (drop at s))) (take M (drop k (take (length s - at) (drop at s)))) → r ≡ vouchedFrame E M n at k s
+  unfolding vouched vouchedFrame
+  frame-vouched M n at k s x r h e q =
+      let l : length (take k (drop at s)) ≡ k = length-take-le k (drop at s) (simp length-drop (omega arith)) in
+      cc (part-rest at s, drop-drop k at s, l)
+
+  pub frame-opened : (n : List ℕ) (at k : ℕ) (s y : List ℕ) (r : Bool)
+      → y ≡ cond r (counted E n 1 (take k (take (length s - at) (drop at s))) ++ drop k (take (length s - at) (drop at s))) (take (length s - at) (drop at s))
+      → take at s ++ (y ++ drop (length s - at) (drop at s)) ≡ cond r (openedFrame E n at k s) s
+  unfolding openedFrame
+  frame-opened n at k s y r q =
+      cc (put-rest at s y, part-rest at s, put-cond r at s (counted E n 1 (take k (drop at s)) ++ drop k (drop at s)), drop-drop k at s)
 
   -- s, its first n copied to the front of p, and these under the key stream
   pub aside : (n s p t q : List ℕ) (k : ℕ) → k ≤ length s → t ≡ take (length (take k s)) (take k s) ++ drop (length (take k s)) p

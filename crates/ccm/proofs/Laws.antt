@@ -1,24 +1,16 @@
 -- Laws of the definitions of specs/Ccm.antt: what a turn of a loop over blocks of 16 octets does, and how the MAC begins. Assumes nothing.
-use mathlib.Core.Path.{_≡_, refl, sym, ap, _∙_}
-use Prim.Native.Nat.{ℕ, suc, _+_, _-_, _*_, _/_, _≤_, _<_}
+use mathlib.Core.Path.{_≡_, refl, ap, _∙_}
+use Prim.Native.Nat.{ℕ, suc, _+_, _-_, _*_, _/_, _<_}
 use native.Mathlib.Nat.{suc-ne-zero}
 use native.Mathlib.Omega.{arith}
-use mathlib.Core.List.{List, [], _∷_, _++_, append-assoc, append-nil}
+use mathlib.Core.List.{List, [], _∷_, _++_, append-assoc}
 use lib.ListN.{length, take, drop, length-drop, drop-of-length-le}
-use lib.Seq.{take-all, take-at, take-add, drop-at, drop-drop, length-take-le}
+use lib.Seq.{take-at, take-add, drop-at, drop-drop, length-take-le}
 use Rattle.laws.specs.Octets.{_⊕_}
 use Rattle.laws.specs.XorLaws.{xor-length, xor-nil, nil-xor, xor-take, xor-drop, xor-append, xor-cut, xor-zeros}
 use Rattle.laws.specs.Blocks.{be16, blocks}
 use Rattle.laws.specs.BlockLaws.{blocks-nil, blocks-cons}
 use Rattle.ccm.specs.Ccm.{block, chain, stream, counted, head, headBlocks}
-
--- two octets XORed into a block, and then a string into the rest of it: both in a row
-pub xor-lead : (x a : List ℕ) (k : ℕ) → length x ≡ 16
-    → take 2 (x ⊕ be16 k) ++ ((take 14 (drop 2 (x ⊕ be16 k)) ⊕ a) ++ drop 14 (drop 2 (x ⊕ be16 k))) ≡ x ⊕ (be16 k ++ a)
-xor-lead x a k l =
-    let n : length (drop 2 (x ⊕ be16 k)) ≤ 14 = simp (length-drop, xor-length) (omega arith) in
-    rw (take-all 14 (drop 2 (x ⊕ be16 k)) n, drop-of-length-le (drop 2 (x ⊕ be16 k)) n, append-nil, xor-take, xor-drop, xor-nil)
-    (sym (xor-append x (be16 k) a))
 
 module _ (E : List ℕ → List ℕ) where
   pub chain-nil : (x : List ℕ) → chain E x (blocks []) ≡ x

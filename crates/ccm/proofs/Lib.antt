@@ -1,3 +1,4 @@
+pub mod BlockLaws
 pub mod Laws
 pub mod FrameLaws
 pub mod Fitting

@@ -6,32 +6,32 @@ ghost use lib.ListN.{length};
 ghost use Rattle.laws.specs.Octets.{_⊕_};
 ghost use Rattle.laws.specs.Blocks.{be16, blocks};
 ghost use Rattle.tables.specs.Rounds.{IsRound};
-ghost use Rattle.aes.specs.Words.{cipherWords};
+ghost use Rattle.aes.specs.Words.{four, cipherWords};
 ghost use Rattle.ccm.specs.Ccm.{chain, head};
-use crate::counter::make_block;
+use crate::blocks::first_of;
+use crate::blocks::lead_of;
+use crate::blocks::make_block;
+use aes::State;
+use aes::added;
 use octets::least;
-use octets::xor_into;
 
 // One step: the first 16 bytes of s, or as many as there are, XORed into x, and enciphered.
-fn mac_block(keys: &[u32; 44], x: [u8; 16], s: &[u8], table: &[u64; 256]) -> [u8; 16]
+fn mac_block(keys: &[u32; 44], x: State, s: &[u8], table: &[u64; 256]) -> State
     requires { ⌜ IsRound (now table) ⌝ }
-    ensures { λ r. ⌜ r ≡ cipherWords (now (keys .entry)) (x ⊕ now (s .entry)) ⌝ }
+    ensures { λ r. ⌜ four (r .a) (r .b) (r .c) (r .d) ≡ cipherWords (now (keys .entry)) (four (x .a) (x .b) (x .c) (x .d) ⊕ now (s .entry)) ⌝ }
 {
-    let mut y = x;
-    xor_into(&mut y, s);
-    aes::encipher(table, keys, y)
+    aes::encipher_state(table, keys, added(x, first_of(s)))
 }
 
 // From x over the blocks of s, the last filled up with zeros.
-pub(crate) fn mac_part(keys: &[u32; 44], x: [u8; 16], s: &[u8], table: &[u64; 256]) -> [u8; 16]
+pub(crate) fn mac_part(keys: &[u32; 44], x: State, s: &[u8], table: &[u64; 256]) -> State
     requires { ⌜ IsRound (now table) ⌝ }
-    ensures { λ r. ⌜ r ≡ chain (cipherWords (now (keys .entry))) x (blocks (now (s .entry))) ⌝ }
+    ensures { λ r. ⌜ four (r .a) (r .b) (r .c) (r .d) ≡ chain (cipherWords (now (keys .entry))) (four (x .a) (x .b) (x .c) (x .d)) (blocks (now (s .entry))) ⌝ }
 {
     let mut y = x;
     let mut at = 0;
     while at < s.len() {
-        let z = mac_block(keys, y, &s[at..], table);
-        y = z;
+        y = mac_block(keys, y, &s[at..], table);
         at += 16;
     }
     y
@@ -49,16 +49,11 @@ fn flags_of(m: usize, some: u8) -> u8
 }
 
 // The first block of the associated data: their length in two bytes, then the data.
-fn first_block(keys: &[u32; 44], x: [u8; 16], a: &[u8], table: &[u64; 256]) -> [u8; 16]
+fn first_block(keys: &[u32; 44], x: State, a: &[u8], table: &[u64; 256]) -> State
     requires { ⌜ IsRound (now table) ⌝ }
-    ensures { λ r. ⌜ r ≡ cipherWords (now (keys .entry)) (x ⊕ (be16 (length (now (a .entry))) ++ now (a .entry))) ⌝ }
+    ensures { λ r. ⌜ four (r .a) (r .b) (r .c) (r .d) ≡ cipherWords (now (keys .entry)) (four (x .a) (x .b) (x .c) (x .d) ⊕ (be16 (length (now (a .entry))) ++ now (a .entry))) ⌝ }
 {
-    let n = a.len();
-    let lead = [(n / 256 % 256) as u8, (n % 256) as u8];
-    let mut y = x;
-    xor_into(&mut y, &lead);
-    xor_into(&mut y[2..], a);
-    aes::encipher(table, keys, y)
+    aes::encipher_state(table, keys, added(x, lead_of(a)))
 }
 
 // Over B_0 and the associated data a, before a payload of l bytes.
@@ -69,15 +64,15 @@ pub(crate) fn mac_head(
     a: &[u8],
     l: usize,
     table: &[u64; 256],
-) -> [u8; 16]
+) -> State
     requires { ⌜ IsRound (now table) ⌝ }
     requires { ⌜ m ≤ 16 ⌝ }
-    ensures { λ r. ⌜ r ≡ head (cipherWords (now (keys .entry))) m nonce (now (a .entry)) l ⌝ }
+    ensures { λ r. ⌜ four (r .a) (r .b) (r .c) (r .d) ≡ head (cipherWords (now (keys .entry))) m nonce (now (a .entry)) l ⌝ }
 {
     if a.len() == 0 {
-        return aes::encipher(table, keys, make_block(flags_of(m, 0), nonce, l));
+        return aes::encipher_state(table, keys, make_block(flags_of(m, 0), nonce, l));
     }
-    let x = aes::encipher(table, keys, make_block(flags_of(m, 64), nonce, l));
+    let x = aes::encipher_state(table, keys, make_block(flags_of(m, 64), nonce, l));
     let y = first_block(keys, x, a, table);
     let k = least(14, a.len());
     mac_part(keys, y, &a[k..], table)

@@ -2,7 +2,7 @@
 -- lent, that its promise allows are equal. The promises are not written again here: `f′.Reads.Post` is what the prover itself has read from
 -- the `ensures` of f. Of the functions that are proved by hand it reads none; for these the claim is written down, and `f-says` shows that
 -- it is their `ensures`.
-use Prim.Native.Nat.{ℕ}
+use Prim.Native.Nat.{ℕ, _^_, _<_}
 use mathlib.Core.Bool.{Bool, cond}
 use mathlib.Core.List.{List}
 use mathlib.Core.Path.{_≡_, refl, sym, ap, _∙_}
@@ -27,7 +27,7 @@ use Rattle.nwk.specs.Leaves.{opened, secured}
 use Rattle.nwk.specs.OpenNwk.{openNwk}
 use Rattle.nwk.specs.SecureNwk.{secureNwk}
 use Rattle.pouchkettle.specs.Told.{toldNwk, toldRows}
-use Rattle.decided.specs.KeyWords.{Words, same-words}
+use Rattle.decided.specs.KeyWords.{Words, Small, same-word, same-words, same-state}
 use Rattle.answer.proofs.number_of as answer-number-of′
 use Rattle.answer.proofs.outcome_number as answer-outcome-number′
 use Rattle.answer.proofs.told_of as answer-told-of′
@@ -38,9 +38,13 @@ use Rattle.octets.proofs.least as octets-least′
 use Rattle.octets.proofs.xor_into as octets-xor-into′
 use Rattle.octets.proofs.same as octets-same′
 use Rattle.aes.proofs.encipher as aes-encipher′
+use Rattle.aes.proofs.encipher_state as aes-encipher-state′
 use Rattle.aes.proofs.encrypt as aes-encrypt′
 use Rattle.aes.proofs.expand_with as aes-expand-with′
 use Rattle.aes.proofs.expand as aes-expand′
+use Rattle.aes.proofs.added as aes-added′
+use Rattle.aes.proofs.joined as aes-joined′
+use Rattle.aes.proofs.listed as aes-listed′
 use Rattle.ccm.proofs.seal as ccm-seal′
 use Rattle.ccm.proofs.unseal as ccm-unseal′
 use Rattle.primitives.proofs.hash as primitives-hash′
@@ -190,6 +194,25 @@ aes-expand-with κs a z z′ ws ws′ h l p q = (same-words z z′ h l (p ∙ sy
 pub aes-expand : (κs : Lfts (aes-expand′.signature .lifetimes)) (a : Args aes-expand′.signature κs) (z z′ : Res aes-expand′.signature κs) (ws ws′ : Lasts aes-expand′.ended κs a) → Words z → Words z′
     → aes-expand′.Reads.Post κs a z (atExit aes-expand′.ended κs a ws) → aes-expand′.Reads.Post κs a z′ (atExit aes-expand′.ended κs a ws′) → (z ≡ z′) × (ws ≡ ws′)
 aes-expand κs a z z′ ws ws′ h l p q = (same-words z z′ h l (p ∙ sym q), refl)
+
+-- of a state whose words have 32 bits
+pub aes-encipher-state : (κs : Lfts (aes-encipher-state′.signature .lifetimes)) (a : Args aes-encipher-state′.signature κs) (z z′ : Res aes-encipher-state′.signature κs) (ws ws′ : Lasts aes-encipher-state′.ended κs a) → Small z → Small z′
+    → aes-encipher-state′.Reads.Post κs a z (atExit aes-encipher-state′.ended κs a ws) → aes-encipher-state′.Reads.Post κs a z′ (atExit aes-encipher-state′.ended κs a ws′) → (z ≡ z′) × (ws ≡ ws′)
+aes-encipher-state κs a z z′ ws ws′ h l p q = (same-state z z′ h l (p ∙ sym q), refl)
+
+-- of a state whose words have 32 bits
+pub aes-added : (κs : Lfts (aes-added′.signature .lifetimes)) (a : Args aes-added′.signature κs) (z z′ : Res aes-added′.signature κs) (ws ws′ : Lasts aes-added′.ended κs a) → Small z → Small z′
+    → aes-added′.Reads.Post κs a z (atExit aes-added′.ended κs a ws) → aes-added′.Reads.Post κs a z′ (atExit aes-added′.ended κs a ws′) → (z ≡ z′) × (ws ≡ ws′)
+aes-added κs a z z′ ws ws′ h l p q = (same-state z z′ h l (p ∙ sym q), refl)
+
+-- of words of 32 bits
+pub aes-joined : (κs : Lfts (aes-joined′.signature .lifetimes)) (a : Args aes-joined′.signature κs) (z z′ : Res aes-joined′.signature κs) (ws ws′ : Lasts aes-joined′.ended κs a) → z < 2 ^ 32 → z′ < 2 ^ 32
+    → aes-joined′.Reads.Post κs a z (atExit aes-joined′.ended κs a ws) → aes-joined′.Reads.Post κs a z′ (atExit aes-joined′.ended κs a ws′) → (z ≡ z′) × (ws ≡ ws′)
+aes-joined κs a z z′ ws ws′ h l p q = (same-word z z′ h l (p ∙ sym q), refl)
+
+pub aes-listed : Decides aes-listed′.ended aes-listed′.Reads.Post
+unfolding Decides
+aes-listed κs a z z′ ws ws′ p q = (p ∙ sym q, refl)
 
 -- ---- ccm
 

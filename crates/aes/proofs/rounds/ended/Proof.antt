@@ -1,5 +1,4 @@
 -- `aes::rounds::ended` meets its contract. Assumes nothing.
-use mathlib.Core.Path.{_∙_}
 use mathlib.Core.List.{_++_}
 use Rattle.aes.specs.Cipher.{subBytes, shiftRows, addRoundKey}
 use Rattle.aes.specs.Words.{keyBytes}
@@ -10,8 +9,7 @@ use Rattle.aes.proofs.rounds.ended.Tie as tie
 returns : tie.Need-returns
 unfolding subBytes shiftRows addRoundKey keyBytes
 returns c =
-    c .listed .ensures
-    ∙ (λ i. ((c .before .before .before .before .before .before .before .last-column .ensures i ++ c .before .before .before .before .before .last-column2 .ensures i) ++ c .before .before .before .last-column3 .ensures i) ++ c .before .last-column4 .ensures i)
+    λ i. ((c .before .before .before .before .before .before .last-column .ensures i ++ c .before .before .before .before .last-column2 .ensures i) ++ c .before .before .last-column3 .ensures i) ++ c .last-column4 .ensures i
 
 pub ended-spec : {M : Type 1} → statement M
 ended-spec =
@@ -24,6 +22,5 @@ ended-spec =
     (λ c. search needs)
     (λ c κs. search needs)
     (λ c. search needs)
-    (λ c κs. search needs)
     (λ c κs. search needs)
     returns)

@@ -6,7 +6,7 @@ use Rattle.aes.proofs.words.listed.Tie as tie
 
 returns : tie.Need-returns
 returns c =
-    λ i. c .before .before .before .before .before .before .before .before .before .before .before .before .before .before .before .byte .ensures i ∷ c .before .before .before .before .before .before .before .before .before .before .before .before .before .before .byte2 .ensures i ∷ c .before .before .before .before .before .before .before .before .before .before .before .before .before .byte3 .ensures i ∷ c .before .before .before .before .before .before .before .before .before .before .before .before .byte4 .ensures i ∷ c .before .before .before .before .before .before .before .before .before .before .before .byte5 .ensures i ∷ c .before .before .before .before .before .before .before .before .before .before .byte6 .ensures i ∷ c .before .before .before .before .before .before .before .before .before .byte7 .ensures i ∷ c .before .before .before .before .before .before .before .before .byte8 .ensures i ∷ c .before .before .before .before .before .before .before .byte9 .ensures i ∷ c .before .before .before .before .before .before .byte10 .ensures i ∷ c .before .before .before .before .before .byte11 .ensures i ∷ c .before .before .before .before .byte12 .ensures i ∷ c .before .before .before .byte13 .ensures i ∷ c .before .before .byte14 .ensures i ∷ c .before .byte15 .ensures i ∷ c .byte16 .ensures i ∷ []
+    λ i. c .before .before .before .before .before .before .before .before .before .before .before .before .before .before .before .before .before .before .before .before .before .before .before .before .before .before .before .byte .ensures i ∷ c .before .before .before .before .before .before .before .before .before .before .before .before .before .before .before .before .before .before .before .before .before .before .before .before .before .byte2 .ensures i ∷ c .before .before .before .before .before .before .before .before .before .before .before .before .before .before .before .before .before .before .before .before .before .before .before .byte3 .ensures i ∷ c .before .before .before .before .before .before .before .before .before .before .before .before .before .before .before .before .before .before .before .before .before .byte4 .ensures i ∷ c .before .before .before .before .before .before .before .before .before .before .before .before .before .before .before .before .before .before .before .before .byte5 .ensures i ∷ c .before .before .before .before .before .before .before .before .before .before .before .before .before .before .before .before .before .before .byte6 .ensures i ∷ c .before .before .before .before .before .before .before .before .before .before .before .before .before .before .before .before .byte7 .ensures i ∷ c .before .before .before .before .before .before .before .before .before .before .before .before .before .before .byte8 .ensures i ∷ c .before .before .before .before .before .before .before .before .before .before .before .before .before .byte9 .ensures i ∷ c .before .before .before .before .before .before .before .before .before .before .before .byte10 .ensures i ∷ c .before .before .before .before .before .before .before .before .before .byte11 .ensures i ∷ c .before .before .before .before .before .before .before .byte12 .ensures i ∷ c .before .before .before .before .before .before .byte13 .ensures i ∷ c .before .before .before .before .byte14 .ensures i ∷ c .before .before .byte15 .ensures i ∷ c .byte16 .ensures i ∷ []
 
 pub listed-spec : {M : Type 1} → statement M
 listed-spec =

@@ -1,6 +1,6 @@
 -- `ccm::counter::count_through` meets its contract. The invariant: what is done, followed by what is left under the stream from `i` on, is the whole under the stream.
 -- Assumes nothing.
-use mathlib.Core.Path.{_≡_}
+use mathlib.Core.Path.{_≡_, sym, ap}
 use mathlib.Core.List.{_++_, append-nil}
 use Prim.Native.Nat.{_+_, _-_, _≤_}
 use native.Mathlib.Numerals.{add-one}
@@ -23,12 +23,11 @@ abbrev μ-loop : tie.MeasureT-loop
 
 loop-again : tie.Need-loop-again Inv-loop μ-loop
 loop-again c =
-    let l = c .before .before .before .before .before .before .before .loop in
-    let a = c .before .before .before .before .before .before .before .before .before .args in
-    let k = c .before .before .before .before .before .key-block in
-    let x = c .before .before .xor-into .last .0 in
-    let lk : length (k .result) ≡ 16 = search needs in
-    let t = counted-step (cipherWords (a .keys .now)) (a .nonce) (l .i) (l .at) (l .s) (rw (k .ensures) at lk) (search needs) in
+    let l = c .before .before .before .before .before .before .loop in
+    let a = c .before .before .before .before .before .before .before .before .args in
+    let k = c .before .before .before .before .key-block in
+    let x = c .before .before .xor-block .last .0 in
+    let t = counted-step (cipherWords (a .keys .now)) (a .nonce) (l .i) (l .at) (l .s) (ap length (sym (k .ensures))) (search needs) in
     (cc, search needs, rw add-one (cc (t, put-rest (l .at) (l .s) x, part-rest (l .at) (l .s))))
 
 same-length : tie.Need-same-length Inv-loop μ-loop
@@ -49,7 +48,6 @@ count-through-spec =
     μ-loop
     (λ c. search needs)
     (λ c κs. search needs)
-    (λ c. search needs)
     (λ c. search needs)
     (λ c. search needs)
     (λ c. search needs)

@@ -8,4 +8,9 @@ returns : tie.Need-returns
 returns c = cc
 
 pub key-block-spec : {M : Type 1} → statement M
-key-block-spec = tie.close (tie.spec (λ c κs. search needs) (λ c κs. search needs) returns)
+key-block-spec =
+    tie.close
+    (tie.spec
+    (λ c κs. search needs)
+    (λ c κs. search needs)
+    returns)

@@ -5,7 +5,7 @@ use native.Mathlib.Omega.{arith}
 use mathlib.Core.List.{_++_}
 use lib.ListN.{length, take, drop, length-take, length-drop, length-append}
 use lib.Seq.{length-take-le}
-use Rattle.aes.specs.Words.{cipherWords}
+use Rattle.aes.specs.Words.{four, cipherWords}
 use Rattle.ccm.proofs.FrameLaws.{aside, vouched-aside, placed}
 use borrow.Author.Needs.{needs}
 use Rattle.ccm.proofs.frames.open_part.Statement.{statement}
@@ -57,22 +57,24 @@ slice-aggregate-copy-3 c =
 
 copy-requires-2 : tie.Need-copy-requires-2
 copy-requires-2 c κs =
-    let a = c .before .before .before .before .before .before .before .before .before .before .before .before .before .before .before .before .before .before .args in
+    let g = c .before .before .before .before .before .before .before .before .before .before .before .before .before .before .before .before .before .before in
+    let a = g .args in
     let lt : length (c .before .before .before .before .before .before .before .before .before .before .before .before .before .before .copy .last .1 .0) ≡ 1024 = c .before .before .before .before .before .before .before .before .before .before .before .before .before .before .copy .kept .1 .0 in
-    let lq : length (c .before .before .before .before .before .before .before .before .before .before .before .count-through .last .1 .1 .0) ≡ a .n = c .before .before .before .before .before .before .before .before .before .before .before .count-through .kept .1 .1 .0 ∙ length-take-le (a .n) (c .before .before .before .before .before .before .before .before .before .before .before .before .before .before .copy .last .1 .0) (omega arith) in
+    let lq : length (c .before .before .before .before .before .before .before .before .before .before .before .count-through .last .1 .1 .0) ≡ a .n = c .before .before .before .before .before .before .before .before .before .before .before .count-through .kept .1 .1 .0 ∙ length-take-le (a .n) (c .before .before .before .before .before .before .before .before .before .before .before .before .before .before .copy .last .1 .0) (omega (arith, g .pre .1 .1)) in
     let w = c .before .before .before .before .before .before .before .before .before .before .before .count-through .last .1 .1 .0 ++ drop (a .n) (c .before .before .before .before .before .before .before .before .before .before .before .before .before .before .copy .last .1 .0) in
-    let h : length (take (a .n) w) ≤ length (a .s .now) = simp (length-take, length-append, length-drop) (omega arith) in h
+    let h : length (take (a .n) w) ≤ length (a .s .now) = simp (length-take, length-append, length-drop) (omega (arith, g .pre .1 .2)) in h
 
 returns : tie.Need-returns
 returns c =
-    let a = c .before .before .before .before .before .before .before .before .before .before .before .before .before .before .before .before .before .before .before .before .before .args in
+    let g = c .before .before .before .before .before .before .before .before .before .before .before .before .before .before .before .before .before .before .before .before .before in
+    let a = g .args in
     let s = a .s .now in
     let E = cipherWords (a .keys .now) in
-    let h : a .n ≤ length s = search needs in
+    let h : a .n ≤ length s = omega (arith, g .pre .1 .2) in
     let k = c .before .before .before .before .before .before .before .before .before .before .before .before .before .before .before .before .before .copy in
     let q = c .before .before .before .before .before .before .before .before .before .before .before .before .before .before .count-through in
     let p = aside E (a .nonce) s _ (k .last .1 .0) (q .last .1 .1 .0) (a .n) h (k .ensures .1) (q .kept .1 .1 .0) (q .ensures) in
-    let v = vouched-aside E (a .m) (a .nonce) (a .x) (a .n) s _ _ _ _ p (c .before .before .before .before .before .before .before .before .before .before .before .mac-part .ensures) (c .before .before .before .before .before .before .before .before .before .before .tag-of .ensures) (c .before .before .before .before .before .before .same .ensures) in
+    let v = vouched-aside E (a .m) (a .nonce) (four (a .x .a) (a .x .b) (a .x .c) (a .x .d)) (a .n) s _ _ _ _ p (c .before .before .before .before .before .before .before .before .before .before .before .mac-part .ensures) (c .before .before .before .before .before .before .before .before .before .before .tag-of .ensures) (c .before .before .before .before .before .before .same .ensures) in
     (sym (c .before .before .before .before .before .if1 .taken) ∙ v, c .before .before .copy2 .ensures .1 ∙ placed E (a .nonce) (a .n) s _ h p)
 
 returns-2 : tie.Need-returns-2
@@ -84,7 +86,7 @@ returns-2 c =
     let k = c .before .before .before .before .before .before .before .before .before .before .before .before .copy in
     let q = c .before .before .before .before .before .before .before .before .before .count-through in
     let p = aside E (a .nonce) s _ (k .last .1 .0) (q .last .1 .1 .0) (a .n) h (k .ensures .1) (q .kept .1 .1 .0) (q .ensures) in
-    let v = vouched-aside E (a .m) (a .nonce) (a .x) (a .n) s _ _ _ _ p (c .before .before .before .before .before .before .mac-part .ensures) (c .before .before .before .before .before .tag-of .ensures) (c .before .same .ensures) in
+    let v = vouched-aside E (a .m) (a .nonce) (four (a .x .a) (a .x .b) (a .x .c) (a .x .d)) (a .n) s _ _ _ _ p (c .before .before .before .before .before .before .mac-part .ensures) (c .before .before .before .before .before .tag-of .ensures) (c .before .same .ensures) in
     (sym (c .if1 .left) ∙ v, refl)
 
 pub open-part-spec : {M : Type 1} → statement M

@@ -1,28 +1,26 @@
--- `ccm::mac::first_block` meets its contract. Two bytes and then the data, XORed into one block one after the other.
+-- `ccm::mac::first_block` meets its contract. The callees' contracts in a row.
 -- Assumes nothing.
+use mathlib.Core.List.{_++_}
 use lib.ListN.{length}
+use native.Mathlib.Omega.{arith}
+use Rattle.aes.specs.Words.{four}
+use Rattle.laws.specs.Blocks.{be16}
+use Rattle.ccm.proofs.BlockLaws.{xor-listed}
 use borrow.Author.Needs.{needs}
-use Rattle.ccm.proofs.Laws.{xor-lead}
 use Rattle.ccm.proofs.mac.first_block.Statement.{statement}
 use Rattle.ccm.proofs.mac.first_block.Tie as tie
 
 returns : tie.Need-returns
 returns c =
-    let a = c .before .before .before .before .before .before .before .before .before .args in
-    cc (xor-lead (a .x) (a .a .now) (length (a .a .now)) (search needs))
+    let a = c .before .before .before .before .args in
+    let s = a .a .now in
+    cc (xor-listed 16 0 (four (a .x .a) (a .x .b) (a .x .c) (a .x .d)) (be16 (length s) ++ s) (omega arith))
 
 pub first-block-spec : {M : Type 1} → statement M
 first-block-spec =
     tie.close
     (tie.spec
-    (λ c. search needs)
-    (λ c. search needs)
-    (λ c. search needs)
-    (λ c. search needs)
     (λ c κs. search needs)
-    (λ c. search needs)
-    (λ c. search needs)
-    (λ c. search needs)
     (λ c κs. search needs)
     (λ c κs. search needs)
     returns)
