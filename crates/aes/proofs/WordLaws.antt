@@ -1,20 +1,18 @@
--- Words of four bytes: what XOR, a turn by a byte and the table do to the bytes. Assumes nothing.
-use mathlib.Core.Path.{_≡_, refl, sym, ap, ap₂, _∙_, subst}
-use mathlib.Core.List.{[], _∷_}
+-- Words of four bytes: what XOR does to the bytes, and four bytes of the round table. Assumes nothing.
+use mathlib.Core.Path.{_≡_, sym, ap, ap₂, _∙_}
+use mathlib.Core.List.{List, [], _∷_}
 use Prim.Native.Nat.{ℕ, _+_, _*_, _/_, _%_, _^_, _<_}
 use native.Mathlib.Omega.{arith}
 use lib.Bits.{xor-block, xor-lt}
-use lib.Dec.{T, ltb, ltb→lt}
 use lib.Pow.{shr-shr}
-use native.Mathlib.Nat.{div-add-mod'}
+use native.Mathlib.Nat.{add-assoc, div-add-mod'}
+use native.Mathlib.Numerals.{add-one, add-two, add-three}
 use lib.ListN.{getD}
-use Rattle.tables.specs.Field.{xor, mul, sbox}
+use Rattle.tables.specs.Field.{xor, sbox}
 use Rattle.aes.specs.Schedule.{xorWord}
 use Rattle.aes.specs.Words.{byteOf, bytes}
-use Rattle.laws.specs.Rule.{each-below}
-use Rattle.tables.specs.Rounds.{wordOf, products, twice}
-use Rattle.tables.proofs.Tables.{substitution, substitution-rule}
-use lib.Arith.{digits-div, digits-mod}
+use Rattle.tables.specs.Rounds.{wordOf, products, twice, IsRound}
+use Rattle.laws.specs.Parts.{listed}
 
 -- w is the word of the bytes a, b, c and d, a lowest
 pub record Word (w a b c d : ℕ) : Type 0 where
@@ -37,34 +35,6 @@ word-xor {v} {w} {a} {b} {c} {d} {e} {f} {g} {h} p q =
       c-small = xor-lt 8 c g (p .c-small) (q .c-small);
       d-small = xor-lt 8 d h (p .d-small) (q .d-small);
     }
-
--- what stands in a number past its rest l: r, below n
-part : {v e : ℕ} (m n q l r : ℕ) → v ≡ e / m % n → e ≡ (q * n + r) * m + l → l < m → r < n → v ≡ r
-part m n q l r p e h k =
-    p ∙ ap (λ (x : ℕ). x / m % n) e ∙ ap (λ (x : ℕ). x % n) (digits-div (q * n + r) h) ∙ digits-mod q k
-
--- an entry has the word twice: what stands in it from byte 0, 3, 2 and 1 on, and byte 1
-pub part0 : {v e w a b c d : ℕ} → v ≡ e % 4294967296 → e ≡ twice w → Word w a b c d → Word v a b c d
-part0 p q r = record { is = omega arith; a-small = r .a-small; b-small = r .b-small; c-small = r .c-small; d-small = r .d-small }
-
-pub part1 : {v e w a b c d : ℕ} → v ≡ e / 16777216 % 4294967296 → e ≡ twice w → Word w a b c d → Word v d a b c
-part1 {a = a} {b = b} {c = c} {d = d} p q r =
-    let e = part 16777216 4294967296 d (wordOf a b c 0) (wordOf d a b c) p (omega arith) (omega arith) (omega arith) in
-    record { is = e; a-small = r .d-small; b-small = r .a-small; c-small = r .b-small; d-small = r .c-small }
-
-pub part2 : {v e w a b c d : ℕ} → v ≡ e / 65536 % 4294967296 → e ≡ twice w → Word w a b c d → Word v c d a b
-part2 {a = a} {b = b} {c = c} {d = d} p q r =
-    let e = part 65536 4294967296 (wordOf c d 0 0) (wordOf a b 0 0) (wordOf c d a b) p (omega arith) (omega arith) (omega arith) in
-    record { is = e; a-small = r .c-small; b-small = r .d-small; c-small = r .a-small; d-small = r .b-small }
-
-pub part3 : {v e w a b c d : ℕ} → v ≡ e / 256 % 4294967296 → e ≡ twice w → Word w a b c d → Word v b c d a
-part3 {a = a} {b = b} {c = c} {d = d} p q r =
-    let e = part 256 4294967296 (wordOf b c d 0) a (wordOf b c d a) p (omega arith) (omega arith) (omega arith) in
-    record { is = e; a-small = r .b-small; b-small = r .c-small; c-small = r .d-small; d-small = r .a-small }
-
-pub second : {e w a b c d : ℕ} → e ≡ twice w → Word w a b c d → e / 256 % 256 ≡ b
-second {w = w} {a = a} {b = b} {c = c} {d = d} q r =
-    part 256 256 (w * 65536 + (d * 256 + c)) a b refl (omega arith) (omega arith) (omega arith)
 
 pub word-bytes : {w a b c d : ℕ} → Word w a b c d → bytes w ≡ a ∷ b ∷ c ∷ d ∷ []
 word-bytes {w} {a} {b} {c} {d} p = λ i. e₀ i ∷ e₁ i ∷ e₂ i ∷ e₃ i ∷ []
@@ -100,19 +70,15 @@ bytes-word w h =
 pub xor-bytes : (v w : ℕ) → v < 2 ^ 32 → w < 2 ^ 32 → bytes (xor v w) ≡ xorWord (bytes v) (bytes w)
 xor-bytes v w g h = word-bytes (word-xor (bytes-word v g) (bytes-word w h))
 
--- the products of a substituted byte are bytes
-small₁ : (k : ℕ) → k < 256 → T (ltb (sbox k) 256)
-small₁ k h = subst (λ (x : ℕ). T (ltb x 256)) (substitution-rule k h) (each-below (λ n. ltb (getD substitution n 0) 256) 256 tt k h)
+-- four bytes of a list, at the places that the code writes
+pub listed-four : (s : List ℕ) (i : ℕ) → getD s i 0 ∷ getD s (i + 1) 0 ∷ getD s (i + 2) 0 ∷ getD s (i + 3) 0 ∷ [] ≡ listed 4 i s
+listed-four s i = rw (add-one i, add-two i, add-three i)
 
-small₂ : (k : ℕ) → k < 256 → T (ltb (mul 2 k) 256)
-unfolding mul
-small₂ = each-below (λ k. ltb (mul 2 k) 256) 256 tt
-
-small₃ : (k : ℕ) → k < 256 → T (ltb (mul 3 k) 256)
-unfolding mul
-small₃ = each-below (λ k. ltb (mul 3 k) 256) 256 tt
-
-pub product-word : (k : ℕ) → k < 256 → Word (products (sbox k)) (mul 2 (sbox k)) (sbox k) (sbox k) (mul 3 (sbox k))
-product-word k h =
-    let s = ltb→lt (sbox k) 256 (small₁ k h) in
-    record { is = refl; a-small = ltb→lt (mul 2 (sbox k)) 256 (small₂ (sbox k) s); b-small = s; c-small = s; d-small = ltb→lt (mul 3 (sbox k)) 256 (small₃ (sbox k) s) }
+-- four bytes of an entry of the round table
+pub entry-four : (t : List ℕ) (k i : ℕ) → IsRound t → k < 256 → i < 5 → (let n = 8 * k + i in getD t n 0 ∷ getD t (n + 1) 0 ∷ getD t (n + 2) 0 ∷ getD t (n + 3) 0 ∷ [])
+    ≡ listed 4 i (twice (products (sbox k)))
+entry-four t k i h l b =
+    (λ j. h k i l (omega arith) j ∷ at 1 (omega arith) j ∷ at 2 (omega arith) j ∷ at 3 (omega arith) j ∷ []) ∙ listed-four (twice (products (sbox k))) i
+  where
+    at : (m : ℕ) → m < 4 → getD t (8 * k + i + m) 0 ≡ getD (twice (products (sbox k))) (i + m) 0
+    at m c = ap (λ (n : ℕ). getD t n 0) (add-assoc (8 * k) i m) ∙ h k (i + m) l (omega arith)

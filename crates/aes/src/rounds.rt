@@ -1,10 +1,10 @@
 // FIPS 197, 5.1: one block. SubBytes, ShiftRows and MixColumns of a column are four entries of the round table, added.
 ghost use mathlib.Core.Path.{_≡_};
 ghost use mathlib.Core.List.{[], _∷_};
-ghost use Prim.Native.Nat.{_<_, _%_};
-ghost use lib.ListN.{getD};
+ghost use Prim.Native.Nat.{_<_};
+ghost use Rattle.laws.specs.Parts.{listed};
 ghost use Rattle.tables.specs.Field.{sbox};
-ghost use Rattle.tables.specs.Rounds.{IsRound};
+ghost use Rattle.tables.specs.Rounds.{products, twice, IsRound};
 ghost use Rattle.aes.specs.Cipher.{subBytes, shiftRows, mixColumn, mixColumns, addRoundKey, cipher};
 ghost use Rattle.aes.specs.Schedule.{xorWord};
 ghost use Rattle.aes.specs.Words.{bytes, byteOf, four, keyBytes};
@@ -14,42 +14,39 @@ use crate::words::listed;
 use crate::words::taken;
 use crate::words::xored;
 
-fn low(x: u64) -> u32
-    ensures { λ r. ⌜ r ≡ x % 4294967296 ⌝ }
+// Four bytes of the entry for x, from byte i on: its column turned by as many rows.
+fn entry(table: &[u8; 2048], x: u32, i: usize) -> u32
+    requires { ⌜ IsRound (now table) ⌝ }
+    requires { ⌜ (x < 256) × (i < 5) ⌝ }
+    ensures { λ r. ⌜ bytes r ≡ listed 4 i (twice (products (sbox x))) ⌝ }
 {
-    (x % 4294967296) as u32
-}
-
-fn entry(table: &[u64; 256], x: u32) -> u64
-    requires { ⌜ x < 256 ⌝ }
-    ensures { λ r. ⌜ r ≡ getD (now (table .entry)) x 0 ⌝ }
-{
-    table[x as usize]
+    let at = 8 * (x as usize) + i;
+    joined(table[at], table[at + 1], table[at + 2], table[at + 3])
 }
 
 // The substituted byte: every entry has it as its second.
-fn substituted(table: &[u64; 256], x: u32) -> u8
+fn substituted(table: &[u8; 2048], x: u32) -> u8
     requires { ⌜ IsRound (now table) ⌝ }
     requires { ⌜ x < 256 ⌝ }
     ensures { λ r. ⌜ r ≡ sbox x ⌝ }
 {
-    (entry(table, x) / 256 % 256) as u8
+    table[8 * (x as usize) + 1]
 }
 
 // A column of the next state, from the columns that ShiftRows takes its four bytes from.
-fn column(table: &[u64; 256], a: u32, b: u32, c: u32, d: u32, key: u32) -> u32
+fn column(table: &[u8; 2048], a: u32, b: u32, c: u32, d: u32, key: u32) -> u32
     requires { ⌜ IsRound (now table) ⌝ }
     ensures { λ r. ⌜ bytes r ≡ xorWord (mixColumn (sbox (byteOf a 0)) (sbox (byteOf b 1)) (sbox (byteOf c 2)) (sbox (byteOf d 3))) (bytes key) ⌝ }
 {
-    let p = low(entry(table, a % 256));
-    let q = low(entry(table, b / 256 % 256) / 16777216);
-    let r = low(entry(table, c / 65536 % 256) / 65536);
-    let s = low(entry(table, d / 16777216 % 256) / 256);
-    p ^ q ^ r ^ s ^ key
+    let p = entry(table, a % 256, 0);
+    let q = entry(table, b / 256 % 256, 3);
+    let r = entry(table, c / 65536 % 256, 2);
+    let s = entry(table, d / 16777216 % 256, 1);
+    xored(xored(xored(xored(p, q), r), s), key)
 }
 
 // The same in the last round, which has no MixColumns.
-fn last_column(table: &[u64; 256], a: u32, b: u32, c: u32, d: u32, key: u32) -> u32
+fn last_column(table: &[u8; 2048], a: u32, b: u32, c: u32, d: u32, key: u32) -> u32
     requires { ⌜ IsRound (now table) ⌝ }
     ensures { λ r. ⌜ bytes r ≡ xorWord (sbox (byteOf a 0) ∷ sbox (byteOf b 1) ∷ sbox (byteOf c 2) ∷ sbox (byteOf d 3) ∷ []) (bytes key) ⌝ }
 {
@@ -65,7 +62,7 @@ fn last_column(table: &[u64; 256], a: u32, b: u32, c: u32, d: u32, key: u32) -> 
 }
 
 // Round n, of those that have MixColumns.
-fn round(table: &[u64; 256], keys: &[u32; 44], s: State, n: usize) -> State
+fn round(table: &[u8; 2048], keys: &[u32; 44], s: State, n: usize) -> State
     requires { ⌜ IsRound (now table) ⌝ }
     requires { ⌜ n < 11 ⌝ }
     ensures { λ r. ⌜ four (r .a) (r .b) (r .c) (r .d) ≡ addRoundKey (mixColumns (shiftRows (subBytes (four (s .a) (s .b) (s .c) (s .d))))) (keyBytes (now (keys .entry))) n ⌝ }
@@ -91,7 +88,7 @@ fn begun(keys: &[u32; 44], s: State) -> State
 }
 
 // The last round.
-fn ended(table: &[u64; 256], keys: &[u32; 44], s: State) -> State
+fn ended(table: &[u8; 2048], keys: &[u32; 44], s: State) -> State
     requires { ⌜ IsRound (now table) ⌝ }
     ensures { λ r. ⌜ four (r .a) (r .b) (r .c) (r .d) ≡ addRoundKey (shiftRows (subBytes (four (s .a) (s .b) (s .c) (s .d)))) (keyBytes (now (keys .entry))) 10 ⌝ }
 {
@@ -104,7 +101,7 @@ fn ended(table: &[u64; 256], keys: &[u32; 44], s: State) -> State
 }
 
 // One block as four columns, with the round table lent. The nine rounds are written out: a loop is slower.
-pub fn encipher_state(table: &[u64; 256], keys: &[u32; 44], s: State) -> State
+pub fn encipher_state(table: &[u8; 2048], keys: &[u32; 44], s: State) -> State
     requires { ⌜ IsRound (now table) ⌝ }
     ensures { λ r. ⌜ four (r .a) (r .b) (r .c) (r .d) ≡ cipher (keyBytes (now (keys .entry))) (four (s .a) (s .b) (s .c) (s .d)) ⌝ }
 {
@@ -122,7 +119,7 @@ pub fn encipher_state(table: &[u64; 256], keys: &[u32; 44], s: State) -> State
 }
 
 // One block as sixteen bytes.
-pub fn encipher(table: &[u64; 256], keys: &[u32; 44], block: [u8; 16]) -> [u8; 16]
+pub fn encipher(table: &[u8; 2048], keys: &[u32; 44], block: [u8; 16]) -> [u8; 16]
     requires { ⌜ IsRound (now table) ⌝ }
     ensures { λ r. ⌜ r ≡ cipher (keyBytes (now (keys .entry))) block ⌝ }
 {

@@ -3,7 +3,6 @@ use mathlib.Core.Path.{_≡_, refl, sym, ap, ap₂, _∙_}
 use mathlib.Core.List.{List, [], _∷_, _++_, append-nil}
 use Prim.Native.Nat.{ℕ, zero, suc, _+_, _≤_}
 use native.Mathlib.Omega.{arith}
-use native.Mathlib.Numerals.{add-one, add-two, add-three}
 use native.Mathlib.Decide.{decLe}
 use native.Mathlib.Nat.{le-of-suc-le-suc}
 use lib.Bits.{bitXor, xor-zero-r}
@@ -25,10 +24,6 @@ xor-listed (suc k) i (a ∷ x) y h =
         let d : drop i y ≡ [] = drop-of-length-le y {i = i} (omega arith) in
         let e : drop (suc i) y ≡ [] = drop-of-length-le y {i = suc i} (omega arith) in
         rw (d, e, List·getD-eq-default y 0 {n = i} (omega arith), xor-zero-r, xor-nil, xor-nil)
-
--- four octets, at the places that the code writes
-pub listed-four : (s : List ℕ) (i : ℕ) → getD s i 0 ∷ getD s (i + 1) 0 ∷ getD s (i + 2) 0 ∷ getD s (i + 3) 0 ∷ [] ≡ listed 4 i s
-listed-four s i = rw (add-one i, add-two i, add-three i)
 
 -- octets that there are
 pub listed-part : (n i : ℕ) (x : List ℕ) → i + n ≤ length x → listed n i x ≡ take n (drop i x)

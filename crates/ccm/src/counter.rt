@@ -11,7 +11,7 @@ use aes::added;
 use aes::listed;
 
 // S_i.
-fn key_block(keys: &[u32; 44], nonce: [u8; 13], i: usize, table: &[u64; 256]) -> State
+fn key_block(keys: &[u32; 44], nonce: [u8; 13], i: usize, table: &[u8; 2048]) -> State
     requires { ⌜ IsRound (now table) ⌝ }
     ensures { λ r. ⌜ four (r .a) (r .b) (r .c) (r .d) ≡ cipherWords (now (keys .entry)) (block 1 nonce i) ⌝ }
 {
@@ -19,7 +19,7 @@ fn key_block(keys: &[u32; 44], nonce: [u8; 13], i: usize, table: &[u64; 256]) ->
 }
 
 // s XORed in place with S_1, S_2, ..: enciphers, and deciphers.
-pub(crate) fn count_through(keys: &[u32; 44], nonce: [u8; 13], s: &mut [u8], table: &[u64; 256])
+pub(crate) fn count_through(keys: &[u32; 44], nonce: [u8; 13], s: &mut [u8], table: &[u8; 2048])
     requires { ⌜ IsRound (now table) ⌝ }
     ensures { λ _. ⌜ now (s .exit) ≡ counted (cipherWords (now (keys .entry))) nonce 1 (now (s .entry)) ⌝ }
 {
@@ -34,7 +34,7 @@ pub(crate) fn count_through(keys: &[u32; 44], nonce: [u8; 13], s: &mut [u8], tab
 }
 
 // The MAC x under S_0: its first bytes are the tag.
-pub(crate) fn tag_of(keys: &[u32; 44], nonce: [u8; 13], x: State, table: &[u64; 256]) -> [u8; 16]
+pub(crate) fn tag_of(keys: &[u32; 44], nonce: [u8; 13], x: State, table: &[u8; 2048]) -> [u8; 16]
     requires { ⌜ IsRound (now table) ⌝ }
     ensures { λ r. ⌜ r ≡ four (x .a) (x .b) (x .c) (x .d) ⊕ cipherWords (now (keys .entry)) (block 1 nonce 0) ⌝ }
 {

@@ -23,7 +23,7 @@ fn seal_part(
     x: State,
     s: &mut [u8],
     n: usize,
-    table: &[u64; 256],
+    table: &[u8; 2048],
 )
     requires { ⌜ IsRound (now table) ⌝ }
     requires { ⌜ (m ≤ 16) × (n + m ≤ length (now s)) ⌝ }
@@ -43,7 +43,7 @@ fn seal_with(
     out: &mut [u8],
     at: usize,
     n: usize,
-    table: &[u64; 256],
+    table: &[u8; 2048],
 )
     requires { ⌜ IsRound (now table) ⌝ }
     requires { ⌜ (m ≤ 16) × (at + n + m ≤ length (now out)) ⌝ }
@@ -78,7 +78,7 @@ fn open_part(
     x: State,
     s: &mut [u8],
     n: usize,
-    table: &[u64; 256],
+    table: &[u8; 2048],
 ) -> bool
     requires { ⌜ IsRound (now table) ⌝ }
     requires { ⌜ (m ≤ 16) × (n ≤ 1024) × (n + m ≤ length (now s)) ⌝ }
@@ -107,7 +107,7 @@ fn open_with(
     buf: &mut [u8],
     at: usize,
     n: usize,
-    table: &[u64; 256],
+    table: &[u8; 2048],
 ) -> bool
     requires { ⌜ IsRound (now table) ⌝ }
     requires { ⌜ (m ≤ 16) × (n ≤ 1024) × (at + n + m ≤ length (now buf)) ⌝ }

@@ -16,7 +16,7 @@ use aes::added;
 use octets::least;
 
 // One step: the first 16 bytes of s, or as many as there are, XORed into x, and enciphered.
-fn mac_block(keys: &[u32; 44], x: State, s: &[u8], table: &[u64; 256]) -> State
+fn mac_block(keys: &[u32; 44], x: State, s: &[u8], table: &[u8; 2048]) -> State
     requires { ⌜ IsRound (now table) ⌝ }
     ensures { λ r. ⌜ four (r .a) (r .b) (r .c) (r .d) ≡ cipherWords (now (keys .entry)) (four (x .a) (x .b) (x .c) (x .d) ⊕ now (s .entry)) ⌝ }
 {
@@ -24,7 +24,7 @@ fn mac_block(keys: &[u32; 44], x: State, s: &[u8], table: &[u64; 256]) -> State
 }
 
 // From x over the blocks of s, the last filled up with zeros.
-pub(crate) fn mac_part(keys: &[u32; 44], x: State, s: &[u8], table: &[u64; 256]) -> State
+pub(crate) fn mac_part(keys: &[u32; 44], x: State, s: &[u8], table: &[u8; 2048]) -> State
     requires { ⌜ IsRound (now table) ⌝ }
     ensures { λ r. ⌜ four (r .a) (r .b) (r .c) (r .d) ≡ chain (cipherWords (now (keys .entry))) (four (x .a) (x .b) (x .c) (x .d)) (blocks (now (s .entry))) ⌝ }
 {
@@ -49,7 +49,7 @@ fn flags_of(m: usize, some: u8) -> u8
 }
 
 // The first block of the associated data: their length in two bytes, then the data.
-fn first_block(keys: &[u32; 44], x: State, a: &[u8], table: &[u64; 256]) -> State
+fn first_block(keys: &[u32; 44], x: State, a: &[u8], table: &[u8; 2048]) -> State
     requires { ⌜ IsRound (now table) ⌝ }
     ensures { λ r. ⌜ four (r .a) (r .b) (r .c) (r .d) ≡ cipherWords (now (keys .entry)) (four (x .a) (x .b) (x .c) (x .d) ⊕ (be16 (length (now (a .entry))) ++ now (a .entry))) ⌝ }
 {
@@ -63,7 +63,7 @@ pub(crate) fn mac_head(
     m: usize,
     a: &[u8],
     l: usize,
-    table: &[u64; 256],
+    table: &[u8; 2048],
 ) -> State
     requires { ⌜ IsRound (now table) ⌝ }
     requires { ⌜ m ≤ 16 ⌝ }

@@ -10,7 +10,7 @@ use crate::steps::first_block;
 use crate::steps::step;
 
 // The key as one block.
-fn key_block(key: &[u8], round: &[u64; 256], substitution: &[u8; 256]) -> [u8; 16]
+fn key_block(key: &[u8], round: &[u8; 2048], substitution: &[u8; 256]) -> [u8; 16]
     requires { ⌜ IsRound (now round) ⌝ }
     requires { ⌜ IsSubstitution (now substitution) ⌝ }
     requires { ⌜ length (now key) < 8192 ⌝ }
@@ -33,7 +33,7 @@ fn masked(block: [u8; 16], byte: u8) -> [u8; 16]
 }
 
 // The keyed hash: each of the two hashes begins with a masked key, one whole block, and goes on from there.
-fn keyed_with(key: &[u8], text: &[u8], round: &[u64; 256], substitution: &[u8; 256]) -> [u8; 16]
+fn keyed_with(key: &[u8], text: &[u8], round: &[u8; 2048], substitution: &[u8; 256]) -> [u8; 16]
     requires { ⌜ IsRound (now round) ⌝ }
     requires { ⌜ IsSubstitution (now substitution) ⌝ }
     requires { ⌜ (length (now key) < 8192) × (length (now text) ≤ 8175) ⌝ }

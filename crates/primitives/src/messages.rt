@@ -14,7 +14,7 @@ pub(crate) fn finish(
     h: [u8; 16],
     s: &[u8],
     total: usize,
-    round: &[u64; 256],
+    round: &[u8; 2048],
     substitution: &[u8; 256],
 ) -> [u8; 16]
     requires { ⌜ IsRound (now round) ⌝ }

@@ -17,7 +17,7 @@ pub(crate) fn first_block(s: &[u8]) -> [u8; 16]
 pub(crate) fn step(
     h: [u8; 16],
     x: [u8; 16],
-    round: &[u64; 256],
+    round: &[u8; 2048],
     substitution: &[u8; 256],
 ) -> [u8; 16]
     requires { ⌜ IsRound (now round) ⌝ }
@@ -31,7 +31,7 @@ pub(crate) fn step(
 }
 
 // From h over the blocks of s, the last filled up with zeros.
-pub(crate) fn run(h: [u8; 16], s: &[u8], round: &[u64; 256], substitution: &[u8; 256]) -> [u8; 16]
+pub(crate) fn run(h: [u8; 16], s: &[u8], round: &[u8; 2048], substitution: &[u8; 256]) -> [u8; 16]
     requires { ⌜ IsRound (now round) ⌝ }
     requires { ⌜ IsSubstitution (now substitution) ⌝ }
     ensures { λ r. ⌜ r ≡ steps h (blocks (now (s .entry))) ⌝ }

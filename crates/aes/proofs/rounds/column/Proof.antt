@@ -1,21 +1,23 @@
--- `aes::rounds::column` meets its contract. Assumes nothing.
-use mathlib.Core.Path.{_∙_}
-use Prim.Native.Nat.{_/_, _%_}
-use native.Mathlib.Omega.{arith}
-use Rattle.aes.proofs.WordLaws.{word-xor, part0, part1, part2, part3, word-bytes, bytes-word, product-word}
+-- `aes::rounds::column` meets its contract: the four columns added are the rows of MixColumns, by computation. Assumes nothing.
+use mathlib.Core.Path.{ap, ap₂, _∙_}
+use mathlib.Core.List.{List}
+use Prim.Native.Nat.{ℕ}
+use Rattle.aes.specs.Schedule.{xorWord}
+use Rattle.aes.specs.Words.{bytes}
 use borrow.Author.Needs.{needs}
 use Rattle.aes.proofs.rounds.column.Statement.{statement}
 use Rattle.aes.proofs.rounds.column.Tie as tie
 
+-- two words added
+abbrev sum : List ℕ → List ℕ → List ℕ
+sum x y = xorWord x y
+
 returns : tie.Need-returns
 returns c =
-    let s = c .before .before .before .before .before .before .before .before in
-    let a = s .args in
-    let p = part0 (c .before .before .before .before .before .before .low .ensures) (c .before .before .before .before .before .before .before .entry .ensures ∙ s .pre (a .a % 256) (omega arith)) (product-word (a .a % 256) (omega arith)) in
-    let q = part1 (c .before .before .before .before .low2 .ensures) (c .before .before .before .before .before .entry2 .ensures ∙ s .pre (a .b / 256 % 256) (omega arith)) (product-word (a .b / 256 % 256) (omega arith)) in
-    let r = part2 (c .before .before .low3 .ensures) (c .before .before .before .entry3 .ensures ∙ s .pre (a .c / 65536 % 256) (omega arith)) (product-word (a .c / 65536 % 256) (omega arith)) in
-    let z = part3 (c .low4 .ensures) (c .before .entry4 .ensures ∙ s .pre (a .d / 16777216 % 256) (omega arith)) (product-word (a .d / 16777216 % 256) (omega arith)) in
-    word-bytes (word-xor (word-xor (word-xor (word-xor p q) r) z) (bytes-word (a .key) (s .fits .key .fits)))
+    let e1 = c .before .before .before .xored .ensures ∙ ap₂ sum (c .before .before .before .before .before .before .before .entry .ensures) (c .before .before .before .before .before .before .entry2 .ensures) in
+    let e2 = c .before .before .xored2 .ensures ∙ ap₂ sum e1 (c .before .before .before .before .before .entry3 .ensures) in
+    let e3 = c .before .xored3 .ensures ∙ ap₂ sum e2 (c .before .before .before .before .entry4 .ensures) in
+    c .xored4 .ensures ∙ ap (λ (x : List ℕ). sum x (bytes (c .before .before .before .before .before .before .before .before .args .key))) e3
 
 pub column-spec : {M : Type 1} → statement M
 column-spec =
