@@ -1,3 +1,3 @@
 pub mod Lists
-pub mod WordLaws
+pub mod Entries
 pub mod RoundKeys

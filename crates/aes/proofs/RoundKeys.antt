@@ -12,7 +12,8 @@ use lib.ListN.{length, set, getD, length-append, length-set, List·getD-append}
 use lib.Seq.{getD-append-add, getD-set-same, getD-set-other}
 use borrow.Author.Tests.{eq-eqb, ne-eqb}
 use Rattle.aes.specs.Schedule.{wordAt, xorWord, rotWord, subWord, rcon, pickWord, nextWord, schedule}
-use Rattle.aes.specs.Words.{bytes, four, wordBytes, keyBytes}
+use Rattle.words.specs.Words.{bytes, four}
+use Rattle.aes.specs.Words.{wordBytes, keyBytes}
 use Rattle.aes.proofs.Lists.{list-same}
 
 pub wordBytes-length : (w : List ℕ) (n : ℕ) → length (wordBytes w n) ≡ 4 * n

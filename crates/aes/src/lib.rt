@@ -2,14 +2,9 @@
 // Round keys are 44 words; a word holds four bytes, the byte of row 0 lowest.
 mod rounds;
 mod schedule;
-mod words;
 
 pub use rounds::encipher;
 pub use rounds::encipher_state;
 pub use rounds::encrypt;
 pub use schedule::expand;
 pub use schedule::expand_with;
-pub use words::State;
-pub use words::added;
-pub use words::joined;
-pub use words::listed;

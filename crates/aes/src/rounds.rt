@@ -7,12 +7,13 @@ ghost use Rattle.tables.specs.Field.{sbox};
 ghost use Rattle.tables.specs.Rounds.{products, twice, IsRound};
 ghost use Rattle.aes.specs.Cipher.{subBytes, shiftRows, mixColumn, mixColumns, addRoundKey, cipher};
 ghost use Rattle.aes.specs.Schedule.{xorWord};
-ghost use Rattle.aes.specs.Words.{bytes, byteOf, four, keyBytes};
-use crate::words::State;
-use crate::words::joined;
-use crate::words::listed;
-use crate::words::taken;
-use crate::words::xored;
+ghost use Rattle.words.specs.Words.{bytes, byteOf, blockOf};
+ghost use Rattle.aes.specs.Words.{keyBytes};
+use words::State;
+use words::block_of;
+use words::joined;
+use words::state_of;
+use words::xored;
 
 // Four bytes of the entry for x, from byte i on: its column turned by as many rows.
 fn entry(table: &[u8; 2048], x: u32, i: usize) -> u32
@@ -65,7 +66,7 @@ fn last_column(table: &[u8; 2048], a: u32, b: u32, c: u32, d: u32, key: u32) -> 
 fn round(table: &[u8; 2048], keys: &[u32; 44], s: State, n: usize) -> State
     requires { ⌜ IsRound (now table) ⌝ }
     requires { ⌜ n < 11 ⌝ }
-    ensures { λ r. ⌜ four (r .a) (r .b) (r .c) (r .d) ≡ addRoundKey (mixColumns (shiftRows (subBytes (four (s .a) (s .b) (s .c) (s .d))))) (keyBytes (now (keys .entry))) n ⌝ }
+    ensures { λ r. ⌜ blockOf r ≡ addRoundKey (mixColumns (shiftRows (subBytes (blockOf s)))) (keyBytes (now (keys .entry))) n ⌝ }
 {
     State {
         a: column(table, s.a, s.b, s.c, s.d, keys[4 * n]),
@@ -77,7 +78,7 @@ fn round(table: &[u8; 2048], keys: &[u32; 44], s: State, n: usize) -> State
 
 // A state, and the first round key added to it.
 fn begun(keys: &[u32; 44], s: State) -> State
-    ensures { λ r. ⌜ four (r .a) (r .b) (r .c) (r .d) ≡ addRoundKey (four (s .a) (s .b) (s .c) (s .d)) (keyBytes (now (keys .entry))) 0 ⌝ }
+    ensures { λ r. ⌜ blockOf r ≡ addRoundKey (blockOf s) (keyBytes (now (keys .entry))) 0 ⌝ }
 {
     State {
         a: xored(s.a, keys[0]),
@@ -90,7 +91,7 @@ fn begun(keys: &[u32; 44], s: State) -> State
 // The last round.
 fn ended(table: &[u8; 2048], keys: &[u32; 44], s: State) -> State
     requires { ⌜ IsRound (now table) ⌝ }
-    ensures { λ r. ⌜ four (r .a) (r .b) (r .c) (r .d) ≡ addRoundKey (shiftRows (subBytes (four (s .a) (s .b) (s .c) (s .d)))) (keyBytes (now (keys .entry))) 10 ⌝ }
+    ensures { λ r. ⌜ blockOf r ≡ addRoundKey (shiftRows (subBytes (blockOf s))) (keyBytes (now (keys .entry))) 10 ⌝ }
 {
     State {
         a: last_column(table, s.a, s.b, s.c, s.d, keys[40]),
@@ -103,7 +104,7 @@ fn ended(table: &[u8; 2048], keys: &[u32; 44], s: State) -> State
 // One block as four columns, with the round table lent. The nine rounds are written out: a loop is slower.
 pub fn encipher_state(table: &[u8; 2048], keys: &[u32; 44], s: State) -> State
     requires { ⌜ IsRound (now table) ⌝ }
-    ensures { λ r. ⌜ four (r .a) (r .b) (r .c) (r .d) ≡ cipher (keyBytes (now (keys .entry))) (four (s .a) (s .b) (s .c) (s .d)) ⌝ }
+    ensures { λ r. ⌜ blockOf r ≡ cipher (keyBytes (now (keys .entry))) (blockOf s) ⌝ }
 {
     let s0 = begun(keys, s);
     let s1 = round(table, keys, s0, 1);
@@ -123,7 +124,7 @@ pub fn encipher(table: &[u8; 2048], keys: &[u32; 44], block: [u8; 16]) -> [u8; 1
     requires { ⌜ IsRound (now table) ⌝ }
     ensures { λ r. ⌜ r ≡ cipher (keyBytes (now (keys .entry))) block ⌝ }
 {
-    listed(encipher_state(table, keys, taken(block)))
+    block_of(encipher_state(table, keys, state_of(block)))
 }
 
 // One block, with nothing asked of the caller.

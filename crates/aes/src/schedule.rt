@@ -6,11 +6,12 @@ ghost use lib.ListN.{length};
 ghost use Rattle.tables.specs.Field.{sbox, roundConstant};
 ghost use Rattle.tables.specs.Rounds.{IsSubstitution};
 ghost use Rattle.aes.specs.Schedule.{xorWord, rotWord, subWord, rcon, keyExpansion};
-ghost use Rattle.aes.specs.Words.{bytes, four, wordBytes, keyBytes};
-use crate::words::State;
-use crate::words::joined;
-use crate::words::taken;
-use crate::words::xored;
+ghost use Rattle.words.specs.Words.{bytes, blockOf};
+ghost use Rattle.aes.specs.Words.{wordBytes, keyBytes};
+use words::State;
+use words::joined;
+use words::state_of;
+use words::xored;
 
 fn round_constant(n: usize) -> u8
     requires { ⌜ n < 10 ⌝ }
@@ -61,7 +62,7 @@ fn next_key(table: &[u8; 256], k: State, n: usize) -> State
 // Round key n, put after those before it.
 fn put(w: &mut [u32], n: usize, k: State)
     requires { ⌜ (n < 11) × (4 * n + 4 ≤ length (now w)) ⌝ }
-    ensures { λ _. ⌜ wordBytes (now (w .exit)) (4 * n + 4) ≡ wordBytes (now (w .entry)) (4 * n) ++ four (k .a) (k .b) (k .c) (k .d) ⌝ }
+    ensures { λ _. ⌜ wordBytes (now (w .exit)) (4 * n + 4) ≡ wordBytes (now (w .entry)) (4 * n) ++ blockOf k ⌝ }
 {
     w[4 * n] = k.a;
     w[4 * n + 1] = k.b;
@@ -76,7 +77,7 @@ pub fn expand_with(table: &[u8; 256], key: [u8; 16]) -> [u32; 44]
     ensures { λ r. ⌜ keyBytes r ≡ keyExpansion key ⌝ }
 {
     let mut w = [0u32; 44];
-    let mut k = taken(key);
+    let mut k = state_of(key);
     for n in 0..10 {
         put(&mut w, n, k);
         k = next_key(table, k, n);

@@ -6,13 +6,13 @@ ghost use lib.ListN.{length, getD};
 ghost use Rattle.laws.specs.Octets.{_⊕_};
 ghost use Rattle.laws.specs.Blocks.{be16};
 ghost use Rattle.laws.specs.Parts.{listed};
-ghost use Rattle.aes.specs.Words.{bytes, four};
+ghost use Rattle.words.specs.Words.{bytes, blockOf};
 ghost use Rattle.ccm.specs.Ccm.{block};
-use aes::State;
-use aes::added;
-use aes::joined;
-use aes::listed;
 use octets::xor_into;
+use words::State;
+use words::added;
+use words::block_of;
+use words::joined;
 
 // Octet i of s, or 0 past its end.
 fn octet_at(s: &[u8], i: usize) -> u8
@@ -43,9 +43,9 @@ fn word_near(s: &[u8], i: usize) -> u32
 }
 
 // The first block of s, which is whole.
-fn whole(s: &[u8]) -> State
+fn whole_block(s: &[u8]) -> State
     requires { ⌜ 16 ≤ length (now s) ⌝ }
-    ensures { λ r. ⌜ four (r .a) (r .b) (r .c) (r .d) ≡ listed 16 0 (now (s .entry)) ⌝ }
+    ensures { λ r. ⌜ blockOf r ≡ listed 16 0 (now (s .entry)) ⌝ }
 {
     State {
         a: word_at(s, 0),
@@ -56,8 +56,8 @@ fn whole(s: &[u8]) -> State
 }
 
 // The first block of s, filled up with zeros where it is not whole.
-pub(crate) fn first_of(s: &[u8]) -> State
-    ensures { λ r. ⌜ four (r .a) (r .b) (r .c) (r .d) ≡ listed 16 0 (now (s .entry)) ⌝ }
+pub(crate) fn padded_block(s: &[u8]) -> State
+    ensures { λ r. ⌜ blockOf r ≡ listed 16 0 (now (s .entry)) ⌝ }
 {
     if s.len() < 16 {
         return State {
@@ -67,13 +67,13 @@ pub(crate) fn first_of(s: &[u8]) -> State
             d: word_near(s, 12),
         };
     }
-    whole(s)
+    whole_block(s)
 }
 
 // A length in two octets, and fourteen octets of a.
-fn led(n: usize, a: &[u8]) -> State
+fn length_then(n: usize, a: &[u8]) -> State
     requires { ⌜ 14 ≤ length (now a) ⌝ }
-    ensures { λ r. ⌜ four (r .a) (r .b) (r .c) (r .d) ≡ be16 n ++ listed 14 0 (now (a .entry)) ⌝ }
+    ensures { λ r. ⌜ blockOf r ≡ be16 n ++ listed 14 0 (now (a .entry)) ⌝ }
 {
     State {
         a: joined((n / 256 % 256) as u8, (n % 256) as u8, a[0], a[1]),
@@ -84,20 +84,20 @@ fn led(n: usize, a: &[u8]) -> State
 }
 
 // The first block of associated data a: their length in two octets, then the data, and zeros where they are short.
-pub(crate) fn lead_of(a: &[u8]) -> State
-    ensures { λ r. ⌜ four (r .a) (r .b) (r .c) (r .d) ≡ be16 (length (now (a .entry))) ++ listed 14 0 (now (a .entry)) ⌝ }
+pub(crate) fn length_block(a: &[u8]) -> State
+    ensures { λ r. ⌜ blockOf r ≡ be16 (length (now (a .entry))) ++ listed 14 0 (now (a .entry)) ⌝ }
 {
     if a.len() < 14 {
         let mut t = [0u8; 14];
         bytes::copy(a, &mut t);
-        return led(a.len(), &t);
+        return length_then(a.len(), &t);
     }
-    led(a.len(), a)
+    length_then(a.len(), a)
 }
 
 // The block of flags, nonce and a two-byte number: B_0 and A_i.
 pub(crate) fn make_block(flags: u8, nonce: [u8; 13], k: usize) -> State
-    ensures { λ r. ⌜ four (r .a) (r .b) (r .c) (r .d) ≡ block flags nonce k ⌝ }
+    ensures { λ r. ⌜ blockOf r ≡ block flags nonce k ⌝ }
 {
     State {
         a: joined(flags, nonce[0], nonce[1], nonce[2]),
@@ -110,18 +110,18 @@ pub(crate) fn make_block(flags: u8, nonce: [u8; 13], k: usize) -> State
 // k XORed into the first block of s, which is whole.
 fn xor_whole(s: &mut [u8], k: State)
     requires { ⌜ 16 ≤ length (now s) ⌝ }
-    ensures { λ _. ⌜ now (s .exit) ≡ now (s .entry) ⊕ four (k .a) (k .b) (k .c) (k .d) ⌝ }
+    ensures { λ _. ⌜ now (s .exit) ≡ now (s .entry) ⊕ blockOf k ⌝ }
 {
-    let t = listed(added(whole(s), k));
+    let t = block_of(added(whole_block(s), k));
     bytes::copy(&t, s);
 }
 
 // k XORed into the first block of s, or into as much as there is of it.
 pub(crate) fn xor_block(s: &mut [u8], k: State)
-    ensures { λ _. ⌜ now (s .exit) ≡ now (s .entry) ⊕ four (k .a) (k .b) (k .c) (k .d) ⌝ }
+    ensures { λ _. ⌜ now (s .exit) ≡ now (s .entry) ⊕ blockOf k ⌝ }
 {
     if s.len() < 16 {
-        let t = listed(k);
+        let t = block_of(k);
         xor_into(s, &t);
     } else {
         xor_whole(s, k);

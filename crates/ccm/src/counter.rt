@@ -2,18 +2,19 @@
 ghost use mathlib.Core.Path.{_≡_};
 ghost use Rattle.laws.specs.Octets.{_⊕_};
 ghost use Rattle.tables.specs.Rounds.{IsRound};
-ghost use Rattle.aes.specs.Words.{four, cipherWords};
+ghost use Rattle.words.specs.Words.{blockOf};
+ghost use Rattle.aes.specs.Words.{cipherWords};
 ghost use Rattle.ccm.specs.Ccm.{block, counted};
 use crate::blocks::make_block;
 use crate::blocks::xor_block;
-use aes::State;
-use aes::added;
-use aes::listed;
+use words::State;
+use words::added;
+use words::block_of;
 
 // S_i.
 fn key_block(keys: &[u32; 44], nonce: [u8; 13], i: usize, table: &[u8; 2048]) -> State
     requires { ⌜ IsRound (now table) ⌝ }
-    ensures { λ r. ⌜ four (r .a) (r .b) (r .c) (r .d) ≡ cipherWords (now (keys .entry)) (block 1 nonce i) ⌝ }
+    ensures { λ r. ⌜ blockOf r ≡ cipherWords (now (keys .entry)) (block 1 nonce i) ⌝ }
 {
     aes::encipher_state(table, keys, make_block(1, nonce, i))
 }
@@ -36,8 +37,8 @@ pub(crate) fn count_through(keys: &[u32; 44], nonce: [u8; 13], s: &mut [u8], tab
 // The MAC x under S_0: its first bytes are the tag.
 pub(crate) fn tag_of(keys: &[u32; 44], nonce: [u8; 13], x: State, table: &[u8; 2048]) -> [u8; 16]
     requires { ⌜ IsRound (now table) ⌝ }
-    ensures { λ r. ⌜ r ≡ four (x .a) (x .b) (x .c) (x .d) ⊕ cipherWords (now (keys .entry)) (block 1 nonce 0) ⌝ }
+    ensures { λ r. ⌜ r ≡ blockOf x ⊕ cipherWords (now (keys .entry)) (block 1 nonce 0) ⌝ }
 {
     let k = key_block(keys, nonce, 0, table);
-    listed(added(x, k))
+    block_of(added(x, k))
 }

@@ -5,15 +5,16 @@ ghost use mathlib.Core.List.{_++_};
 ghost use Prim.Native.Nat.{_+_, _≤_};
 ghost use lib.ListN.{length, take, drop};
 ghost use Rattle.tables.specs.Rounds.{IsRound};
-ghost use Rattle.aes.specs.Words.{four, cipherWords};
+ghost use Rattle.words.specs.Words.{blockOf};
+ghost use Rattle.aes.specs.Words.{cipherWords};
 ghost use Rattle.ccm.specs.Ccm.{counted, sealedFrom, vouchedFrom};
 ghost use Rattle.ccm.specs.Frame.{sealedFrame, openedFrame, vouchedFrame};
 use crate::counter::count_through;
 use crate::counter::tag_of;
 use crate::mac::mac_head;
 use crate::mac::mac_part;
-use aes::State;
 use octets::same;
+use words::State;
 
 // Seals the first n bytes of s in place, and puts the tag of m bytes after them. x is the MAC so far.
 fn seal_part(
@@ -27,7 +28,7 @@ fn seal_part(
 )
     requires { ⌜ IsRound (now table) ⌝ }
     requires { ⌜ (m ≤ 16) × (n + m ≤ length (now s)) ⌝ }
-    ensures { λ _. ⌜ now (s .exit) ≡ sealedFrom (cipherWords (now (keys .entry))) m nonce (four (x .a) (x .b) (x .c) (x .d)) (take n (now (s .entry))) ++ drop (n + m) (now (s .entry)) ⌝ }
+    ensures { λ _. ⌜ now (s .exit) ≡ sealedFrom (cipherWords (now (keys .entry))) m nonce (blockOf x) (take n (now (s .entry))) ++ drop (n + m) (now (s .entry)) ⌝ }
 {
     let y = mac_part(keys, x, &s[..n], table);
     let t = tag_of(keys, nonce, y, table);
@@ -82,7 +83,7 @@ fn open_part(
 ) -> bool
     requires { ⌜ IsRound (now table) ⌝ }
     requires { ⌜ (m ≤ 16) × (n ≤ 1024) × (n + m ≤ length (now s)) ⌝ }
-    ensures { λ r. ⌜ (r ≡ vouchedFrom (cipherWords (now (keys .entry))) m nonce (four (x .a) (x .b) (x .c) (x .d)) (take n (now (s .entry))) (take m (drop n (now (s .entry)))))
+    ensures { λ r. ⌜ (r ≡ vouchedFrom (cipherWords (now (keys .entry))) m nonce (blockOf x) (take n (now (s .entry))) (take m (drop n (now (s .entry)))))
         × (now (s .exit) ≡ cond r (counted (cipherWords (now (keys .entry))) nonce 1 (take n (now (s .entry))) ++ drop n (now (s .entry))) (now (s .entry))) ⌝ }
 {
     let mut p = [0u8; 1024];

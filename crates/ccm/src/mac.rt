@@ -6,27 +6,28 @@ ghost use lib.ListN.{length};
 ghost use Rattle.laws.specs.Octets.{_⊕_};
 ghost use Rattle.laws.specs.Blocks.{be16, blocks};
 ghost use Rattle.tables.specs.Rounds.{IsRound};
-ghost use Rattle.aes.specs.Words.{four, cipherWords};
+ghost use Rattle.words.specs.Words.{blockOf};
+ghost use Rattle.aes.specs.Words.{cipherWords};
 ghost use Rattle.ccm.specs.Ccm.{chain, head};
-use crate::blocks::first_of;
-use crate::blocks::lead_of;
+use crate::blocks::length_block;
 use crate::blocks::make_block;
-use aes::State;
-use aes::added;
+use crate::blocks::padded_block;
 use octets::least;
+use words::State;
+use words::added;
 
 // One step: the first 16 bytes of s, or as many as there are, XORed into x, and enciphered.
 fn mac_block(keys: &[u32; 44], x: State, s: &[u8], table: &[u8; 2048]) -> State
     requires { ⌜ IsRound (now table) ⌝ }
-    ensures { λ r. ⌜ four (r .a) (r .b) (r .c) (r .d) ≡ cipherWords (now (keys .entry)) (four (x .a) (x .b) (x .c) (x .d) ⊕ now (s .entry)) ⌝ }
+    ensures { λ r. ⌜ blockOf r ≡ cipherWords (now (keys .entry)) (blockOf x ⊕ now (s .entry)) ⌝ }
 {
-    aes::encipher_state(table, keys, added(x, first_of(s)))
+    aes::encipher_state(table, keys, added(x, padded_block(s)))
 }
 
 // From x over the blocks of s, the last filled up with zeros.
 pub(crate) fn mac_part(keys: &[u32; 44], x: State, s: &[u8], table: &[u8; 2048]) -> State
     requires { ⌜ IsRound (now table) ⌝ }
-    ensures { λ r. ⌜ four (r .a) (r .b) (r .c) (r .d) ≡ chain (cipherWords (now (keys .entry))) (four (x .a) (x .b) (x .c) (x .d)) (blocks (now (s .entry))) ⌝ }
+    ensures { λ r. ⌜ blockOf r ≡ chain (cipherWords (now (keys .entry))) (blockOf x) (blocks (now (s .entry))) ⌝ }
 {
     let mut y = x;
     let mut at = 0;
@@ -51,9 +52,9 @@ fn flags_of(m: usize, some: u8) -> u8
 // The first block of the associated data: their length in two bytes, then the data.
 fn first_block(keys: &[u32; 44], x: State, a: &[u8], table: &[u8; 2048]) -> State
     requires { ⌜ IsRound (now table) ⌝ }
-    ensures { λ r. ⌜ four (r .a) (r .b) (r .c) (r .d) ≡ cipherWords (now (keys .entry)) (four (x .a) (x .b) (x .c) (x .d) ⊕ (be16 (length (now (a .entry))) ++ now (a .entry))) ⌝ }
+    ensures { λ r. ⌜ blockOf r ≡ cipherWords (now (keys .entry)) (blockOf x ⊕ (be16 (length (now (a .entry))) ++ now (a .entry))) ⌝ }
 {
-    aes::encipher_state(table, keys, added(x, lead_of(a)))
+    aes::encipher_state(table, keys, added(x, length_block(a)))
 }
 
 // Over B_0 and the associated data a, before a payload of l bytes.
@@ -67,7 +68,7 @@ pub(crate) fn mac_head(
 ) -> State
     requires { ⌜ IsRound (now table) ⌝ }
     requires { ⌜ m ≤ 16 ⌝ }
-    ensures { λ r. ⌜ four (r .a) (r .b) (r .c) (r .d) ≡ head (cipherWords (now (keys .entry))) m nonce (now (a .entry)) l ⌝ }
+    ensures { λ r. ⌜ blockOf r ≡ head (cipherWords (now (keys .entry))) m nonce (now (a .entry)) l ⌝ }
 {
     if a.len() == 0 {
         return aes::encipher_state(table, keys, make_block(flags_of(m, 0), nonce, l));

@@ -37,14 +37,16 @@ use Rattle.tables.proofs.tag_length as tables-tag-length′
 use Rattle.octets.proofs.least as octets-least′
 use Rattle.octets.proofs.xor_into as octets-xor-into′
 use Rattle.octets.proofs.same as octets-same′
+use Rattle.words.proofs.joined as words-joined′
+use Rattle.words.proofs.xored as words-xored′
+use Rattle.words.proofs.added as words-added′
+use Rattle.words.proofs.state_of as words-state-of′
+use Rattle.words.proofs.block_of as words-block-of′
 use Rattle.aes.proofs.encipher as aes-encipher′
 use Rattle.aes.proofs.encipher_state as aes-encipher-state′
 use Rattle.aes.proofs.encrypt as aes-encrypt′
 use Rattle.aes.proofs.expand_with as aes-expand-with′
 use Rattle.aes.proofs.expand as aes-expand′
-use Rattle.aes.proofs.added as aes-added′
-use Rattle.aes.proofs.joined as aes-joined′
-use Rattle.aes.proofs.listed as aes-listed′
 use Rattle.ccm.proofs.seal as ccm-seal′
 use Rattle.ccm.proofs.unseal as ccm-unseal′
 use Rattle.primitives.proofs.hash as primitives-hash′
@@ -175,6 +177,32 @@ pub octets-same : Decides octets-same′.ended octets-same′.Reads.Post
 unfolding Decides
 octets-same κs a z z′ ws ws′ p q = (p ∙ sym q, refl)
 
+-- ---- words
+
+-- of words of 32 bits
+pub words-joined : (κs : Lfts (words-joined′.signature .lifetimes)) (a : Args words-joined′.signature κs) (z z′ : Res words-joined′.signature κs) (ws ws′ : Lasts words-joined′.ended κs a) → z < 2 ^ 32 → z′ < 2 ^ 32
+    → words-joined′.Reads.Post κs a z (atExit words-joined′.ended κs a ws) → words-joined′.Reads.Post κs a z′ (atExit words-joined′.ended κs a ws′) → (z ≡ z′) × (ws ≡ ws′)
+words-joined κs a z z′ ws ws′ h l p q = (same-word z z′ h l (p ∙ sym q), refl)
+
+-- of words of 32 bits
+pub words-xored : (κs : Lfts (words-xored′.signature .lifetimes)) (a : Args words-xored′.signature κs) (z z′ : Res words-xored′.signature κs) (ws ws′ : Lasts words-xored′.ended κs a) → z < 2 ^ 32 → z′ < 2 ^ 32
+    → words-xored′.Reads.Post κs a z (atExit words-xored′.ended κs a ws) → words-xored′.Reads.Post κs a z′ (atExit words-xored′.ended κs a ws′) → (z ≡ z′) × (ws ≡ ws′)
+words-xored κs a z z′ ws ws′ h l p q = (same-word z z′ h l (p ∙ sym q), refl)
+
+-- of states whose words have 32 bits
+pub words-added : (κs : Lfts (words-added′.signature .lifetimes)) (a : Args words-added′.signature κs) (z z′ : Res words-added′.signature κs) (ws ws′ : Lasts words-added′.ended κs a) → Small z → Small z′
+    → words-added′.Reads.Post κs a z (atExit words-added′.ended κs a ws) → words-added′.Reads.Post κs a z′ (atExit words-added′.ended κs a ws′) → (z ≡ z′) × (ws ≡ ws′)
+words-added κs a z z′ ws ws′ h l p q = (same-state z z′ h l (p ∙ sym q), refl)
+
+-- of states whose words have 32 bits
+pub words-state-of : (κs : Lfts (words-state-of′.signature .lifetimes)) (a : Args words-state-of′.signature κs) (z z′ : Res words-state-of′.signature κs) (ws ws′ : Lasts words-state-of′.ended κs a) → Small z → Small z′
+    → words-state-of′.Reads.Post κs a z (atExit words-state-of′.ended κs a ws) → words-state-of′.Reads.Post κs a z′ (atExit words-state-of′.ended κs a ws′) → (z ≡ z′) × (ws ≡ ws′)
+words-state-of κs a z z′ ws ws′ h l p q = (same-state z z′ h l (p ∙ sym q), refl)
+
+pub words-block-of : Decides words-block-of′.ended words-block-of′.Reads.Post
+unfolding Decides
+words-block-of κs a z z′ ws ws′ p q = (p ∙ sym q, refl)
+
 -- ---- aes
 
 pub aes-encipher : Decides aes-encipher′.ended aes-encipher′.Reads.Post
@@ -199,20 +227,6 @@ aes-expand κs a z z′ ws ws′ h l p q = (same-words z z′ h l (p ∙ sym q),
 pub aes-encipher-state : (κs : Lfts (aes-encipher-state′.signature .lifetimes)) (a : Args aes-encipher-state′.signature κs) (z z′ : Res aes-encipher-state′.signature κs) (ws ws′ : Lasts aes-encipher-state′.ended κs a) → Small z → Small z′
     → aes-encipher-state′.Reads.Post κs a z (atExit aes-encipher-state′.ended κs a ws) → aes-encipher-state′.Reads.Post κs a z′ (atExit aes-encipher-state′.ended κs a ws′) → (z ≡ z′) × (ws ≡ ws′)
 aes-encipher-state κs a z z′ ws ws′ h l p q = (same-state z z′ h l (p ∙ sym q), refl)
-
--- of a state whose words have 32 bits
-pub aes-added : (κs : Lfts (aes-added′.signature .lifetimes)) (a : Args aes-added′.signature κs) (z z′ : Res aes-added′.signature κs) (ws ws′ : Lasts aes-added′.ended κs a) → Small z → Small z′
-    → aes-added′.Reads.Post κs a z (atExit aes-added′.ended κs a ws) → aes-added′.Reads.Post κs a z′ (atExit aes-added′.ended κs a ws′) → (z ≡ z′) × (ws ≡ ws′)
-aes-added κs a z z′ ws ws′ h l p q = (same-state z z′ h l (p ∙ sym q), refl)
-
--- of words of 32 bits
-pub aes-joined : (κs : Lfts (aes-joined′.signature .lifetimes)) (a : Args aes-joined′.signature κs) (z z′ : Res aes-joined′.signature κs) (ws ws′ : Lasts aes-joined′.ended κs a) → z < 2 ^ 32 → z′ < 2 ^ 32
-    → aes-joined′.Reads.Post κs a z (atExit aes-joined′.ended κs a ws) → aes-joined′.Reads.Post κs a z′ (atExit aes-joined′.ended κs a ws′) → (z ≡ z′) × (ws ≡ ws′)
-aes-joined κs a z z′ ws ws′ h l p q = (same-word z z′ h l (p ∙ sym q), refl)
-
-pub aes-listed : Decides aes-listed′.ended aes-listed′.Reads.Post
-unfolding Decides
-aes-listed κs a z z′ ws ws′ p q = (p ∙ sym q, refl)
 
 -- ---- ccm
 

@@ -3,13 +3,13 @@ use mathlib.Core.Path.{_≡_, sym, ap, _∙_}
 use mathlib.Core.List.{List}
 use Prim.Native.Nat.{ℕ, _^_, _<_}
 use lib.ListN.{length, getD}
-use Rattle.tables.specs.Rounds.{wordOf}
-use Rattle.aes.specs.declared.words.State.{State}
+use Rattle.words.specs.declared.State.{State}
+use Rattle.words.specs.Words.{bytes, wordOf, blockOf}
+use Rattle.words.proofs.WordLaws.{bytes-word}
 use Rattle.aes.specs.Schedule.{wordAt}
-use Rattle.aes.specs.Words.{bytes, four, keyBytes}
+use Rattle.aes.specs.Words.{keyBytes}
 use Rattle.aes.proofs.Lists.{list-same, list-getD}
 use Rattle.aes.proofs.RoundKeys.{key-at}
-use Rattle.aes.proofs.WordLaws.{bytes-word}
 
 -- what the type `[u32; 44]` says of a list of numbers
 pub record Words (w : List ℕ) : Type 0 where
@@ -36,7 +36,7 @@ pub record Small (s : State) : Type 0 where
   pub small-c : s .c < 2 ^ 32
   pub small-d : s .d < 2 ^ 32
 
-pub same-state : (s t : State) → Small s → Small t → four (s .a) (s .b) (s .c) (s .d) ≡ four (t .a) (t .b) (t .c) (t .d) → s ≡ t
+pub same-state : (s t : State) → Small s → Small t → blockOf s ≡ blockOf t → s ≡ t
 same-state s t h l e = λ i. record {
   a = same-word _ _ (h .small-a) (l .small-a) (ap (λ (x : List ℕ). wordAt x 0) e) i;
   b = same-word _ _ (h .small-b) (l .small-b) (ap (λ (x : List ℕ). wordAt x 1) e) i;

@@ -1,12 +1,9 @@
--- What it is to be the substitution table, and the table of a round's columns. Columns are held as one number, row 0 lowest.
+-- What it is to be the substitution table, and the table of a round's columns.
 use mathlib.Core.Path.{_≡_}
 use mathlib.Core.List.{List, [], _∷_, _++_}
 use Prim.Native.Nat.{ℕ, _+_, _*_, _<_}
 use lib.ListN.{getD}
 use Rattle.tables.specs.Field.{mul, sbox}
-
-abbrev pub wordOf : ℕ → ℕ → ℕ → ℕ → ℕ
-wordOf a b c d = ((d * 256 + c) * 256 + b) * 256 + a
 
 -- FIPS 197 (2001), 5.1.3: what a substituted byte s in row 0 adds to the four rows of its column
 abbrev pub products : ℕ → List ℕ

@@ -1,5 +1,6 @@
 -- `aes::rounds::begun` meets its contract. Assumes nothing.
 use mathlib.Core.List.{_++_}
+use Rattle.laws.specs.Octets.{_⊕_}
 use Rattle.aes.specs.Cipher.{addRoundKey}
 use Rattle.aes.specs.Words.{keyBytes}
 use borrow.Author.Needs.{needs}
@@ -7,7 +8,7 @@ use Rattle.aes.proofs.rounds.begun.Statement.{statement}
 use Rattle.aes.proofs.rounds.begun.Tie as tie
 
 returns : tie.Need-returns
-unfolding addRoundKey keyBytes
+unfolding _⊕_ addRoundKey keyBytes
 returns c =
     λ i. ((c .before .before .before .before .before .before .xored .ensures i ++ c .before .before .before .before .xored2 .ensures i) ++ c .before .before .xored3 .ensures i) ++ c .xored4 .ensures i
 

@@ -2,8 +2,9 @@
 use mathlib.Core.Path.{ap, ap₂, _∙_}
 use mathlib.Core.List.{List}
 use Prim.Native.Nat.{ℕ}
+use Rattle.laws.specs.Octets.{_⊕_}
+use Rattle.words.specs.Words.{bytes}
 use Rattle.aes.specs.Schedule.{xorWord}
-use Rattle.aes.specs.Words.{bytes}
 use borrow.Author.Needs.{needs}
 use Rattle.aes.proofs.rounds.column.Statement.{statement}
 use Rattle.aes.proofs.rounds.column.Tie as tie
@@ -13,6 +14,7 @@ abbrev sum : List ℕ → List ℕ → List ℕ
 sum x y = xorWord x y
 
 returns : tie.Need-returns
+unfolding _⊕_
 returns c =
     let e1 = c .before .before .before .xored .ensures ∙ ap₂ sum (c .before .before .before .before .before .before .before .entry .ensures) (c .before .before .before .before .before .before .entry2 .ensures) in
     let e2 = c .before .before .xored2 .ensures ∙ ap₂ sum e1 (c .before .before .before .before .before .entry3 .ensures) in

@@ -1,6 +1,6 @@
 -- `aes::rounds::entry` meets its contract: the lent table's rule, at four bytes in a row. Assumes nothing.
 use mathlib.Core.Path.{_∙_}
-use Rattle.aes.proofs.WordLaws.{entry-four}
+use Rattle.aes.proofs.Entries.{entry-four}
 use borrow.Author.Needs.{needs}
 use Rattle.aes.proofs.rounds.entry.Statement.{statement}
 use Rattle.aes.proofs.rounds.entry.Tie as tie

@@ -4,9 +4,10 @@ use Prim.Native.Nat.{ℕ, _+_, _*_}
 use mathlib.Core.List.{List, _++_}
 use native.Mathlib.Omega.{arith}
 use Rattle.tables.specs.Field.{sbox}
+use Rattle.words.specs.Words.{byteOf}
 use Rattle.aes.specs.Cipher.{mixColumn, subBytes, shiftRows, mixColumns, addRoundKey}
 use Rattle.aes.specs.Schedule.{xorWord, wordAt}
-use Rattle.aes.specs.Words.{byteOf, keyBytes}
+use Rattle.aes.specs.Words.{keyBytes}
 use Rattle.aes.proofs.RoundKeys.{key-at}
 use native.Mathlib.Nat.{add-zero}
 use borrow.Author.Needs.{needs}

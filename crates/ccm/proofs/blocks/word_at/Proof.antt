@@ -1,6 +1,6 @@
 -- `ccm::blocks::word_at` meets its contract. Assumes nothing.
 use mathlib.Core.Path.{_∙_}
-use Rattle.aes.proofs.WordLaws.{listed-four}
+use Rattle.words.proofs.WordLaws.{listed-four}
 use borrow.Author.Needs.{needs}
 use Rattle.ccm.proofs.blocks.word_at.Statement.{statement}
 use Rattle.ccm.proofs.blocks.word_at.Tie as tie

@@ -1,7 +1,7 @@
 -- `ccm::blocks::word_near` meets its contract. Assumes nothing.
 use mathlib.Core.Path.{_∙_}
 use mathlib.Core.List.{[], _∷_}
-use Rattle.aes.proofs.WordLaws.{listed-four}
+use Rattle.words.proofs.WordLaws.{listed-four}
 use borrow.Author.Needs.{needs}
 use Rattle.ccm.proofs.blocks.word_near.Statement.{statement}
 use Rattle.ccm.proofs.blocks.word_near.Tie as tie

@@ -5,7 +5,8 @@ use native.Mathlib.Omega.{arith}
 use mathlib.Core.List.{_++_}
 use lib.ListN.{length, take, drop, length-take, length-drop, length-append}
 use lib.Seq.{length-take-le}
-use Rattle.aes.specs.Words.{four, cipherWords}
+use Rattle.words.specs.Words.{blockOf}
+use Rattle.aes.specs.Words.{cipherWords}
 use Rattle.ccm.proofs.FrameLaws.{aside, vouched-aside, placed}
 use borrow.Author.Needs.{needs}
 use Rattle.ccm.proofs.frames.open_part.Statement.{statement}
@@ -74,7 +75,7 @@ returns c =
     let k = c .before .before .before .before .before .before .before .before .before .before .before .before .before .before .before .before .before .copy in
     let q = c .before .before .before .before .before .before .before .before .before .before .before .before .before .before .count-through in
     let p = aside E (a .nonce) s _ (k .last .1 .0) (q .last .1 .1 .0) (a .n) h (k .ensures .1) (q .kept .1 .1 .0) (q .ensures) in
-    let v = vouched-aside E (a .m) (a .nonce) (four (a .x .a) (a .x .b) (a .x .c) (a .x .d)) (a .n) s _ _ _ _ p (c .before .before .before .before .before .before .before .before .before .before .before .mac-part .ensures) (c .before .before .before .before .before .before .before .before .before .before .tag-of .ensures) (c .before .before .before .before .before .before .same .ensures) in
+    let v = vouched-aside E (a .m) (a .nonce) (blockOf (a .x)) (a .n) s _ _ _ _ p (c .before .before .before .before .before .before .before .before .before .before .before .mac-part .ensures) (c .before .before .before .before .before .before .before .before .before .before .tag-of .ensures) (c .before .before .before .before .before .before .same .ensures) in
     (sym (c .before .before .before .before .before .if1 .taken) ∙ v, c .before .before .copy2 .ensures .1 ∙ placed E (a .nonce) (a .n) s _ h p)
 
 returns-2 : tie.Need-returns-2
@@ -86,7 +87,7 @@ returns-2 c =
     let k = c .before .before .before .before .before .before .before .before .before .before .before .before .copy in
     let q = c .before .before .before .before .before .before .before .before .before .count-through in
     let p = aside E (a .nonce) s _ (k .last .1 .0) (q .last .1 .1 .0) (a .n) h (k .ensures .1) (q .kept .1 .1 .0) (q .ensures) in
-    let v = vouched-aside E (a .m) (a .nonce) (four (a .x .a) (a .x .b) (a .x .c) (a .x .d)) (a .n) s _ _ _ _ p (c .before .before .before .before .before .before .mac-part .ensures) (c .before .before .before .before .before .tag-of .ensures) (c .before .same .ensures) in
+    let v = vouched-aside E (a .m) (a .nonce) (blockOf (a .x)) (a .n) s _ _ _ _ p (c .before .before .before .before .before .before .mac-part .ensures) (c .before .before .before .before .before .tag-of .ensures) (c .before .same .ensures) in
     (sym (c .if1 .left) ∙ v, refl)
 
 pub open-part-spec : {M : Type 1} → statement M

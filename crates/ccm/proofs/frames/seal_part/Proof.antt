@@ -7,7 +7,8 @@ use Prim.Native.Nat.{_+_, _-_, _≤_}
 use lib.ListN.{length, take, drop, length-take, length-drop, length-append}
 use lib.Seq.{length-take-le}
 use borrow.Author.Needs.{needs}
-use Rattle.aes.specs.Words.{four, cipherWords}
+use Rattle.words.specs.Words.{blockOf}
+use Rattle.aes.specs.Words.{cipherWords}
 use Rattle.ccm.specs.Ccm.{block, sealedFrom, tagFrom}
 use Rattle.laws.specs.XorLaws.{xor-take}
 use Rattle.laws.specs.Parts.{put-two}
@@ -46,7 +47,7 @@ returns c =
     let s = a .s .now in
     let lx : length x ≡ a .n = c .before .before .before .before .before .before .before .count-through .kept .1 .1 .0 ∙ length-take-le (a .n) s (search needs) in
     let lt : length (take (a .m) t) ≡ a .m = length-take-le (a .m) t (search needs) in
-    cc (put-two (a .n) (a .m) x (take (a .m) t) s lx lt, xor-take (a .m) (four (y .a) (y .b) (y .c) (y .d)) (cipherWords (a .keys .now) (block 1 (a .nonce) 0)))
+    cc (put-two (a .n) (a .m) x (take (a .m) t) s lx lt, xor-take (a .m) (blockOf y) (cipherWords (a .keys .now) (block 1 (a .nonce) 0)))
 
 pub seal-part-spec : {M : Type 1} → statement M
 seal-part-spec =

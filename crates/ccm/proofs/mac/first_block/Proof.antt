@@ -3,7 +3,7 @@
 use mathlib.Core.List.{_++_}
 use lib.ListN.{length}
 use native.Mathlib.Omega.{arith}
-use Rattle.aes.specs.Words.{four}
+use Rattle.words.specs.Words.{blockOf}
 use Rattle.laws.specs.Blocks.{be16}
 use Rattle.ccm.proofs.BlockLaws.{xor-listed}
 use borrow.Author.Needs.{needs}
@@ -14,7 +14,7 @@ returns : tie.Need-returns
 returns c =
     let a = c .before .before .before .before .args in
     let s = a .a .now in
-    cc (xor-listed 16 0 (four (a .x .a) (a .x .b) (a .x .c) (a .x .d)) (be16 (length s) ++ s) (omega arith))
+    cc (xor-listed 16 0 (blockOf (a .x)) (be16 (length s) ++ s) (omega arith))
 
 pub first-block-spec : {M : Type 1} → statement M
 first-block-spec =

@@ -3,7 +3,8 @@
 use mathlib.Core.Path.{_≡_, sym, ap}
 use Prim.Native.Nat.{_+_, _-_, _*_, _/_}
 use lib.ListN.{length}
-use Rattle.aes.specs.Words.{four, cipherWords}
+use Rattle.words.specs.Words.{blockOf}
+use Rattle.aes.specs.Words.{cipherWords}
 use Rattle.ccm.specs.Ccm.{block}
 use Rattle.laws.specs.Parts.{part-rest, drop-least}
 use Rattle.ccm.proofs.Laws.{head-nil, head-some}
@@ -21,7 +22,7 @@ returns-2 c =
     let a = c .before .before .before .before .before .before .before .before .before .args in
     let x = c .before .before .before .before .encipher-state2 .result in
     let E = cipherWords (a .keys .now) in
-    let e : four (x .a) (x .b) (x .c) (x .d) ≡ E (block (64 + ((a .m - 2) / 2 * 8 + 1)) (a .nonce) (a .l)) = cc in
+    let e : blockOf x ≡ E (block (64 + ((a .m - 2) / 2 * 8 + 1)) (a .nonce) (a .l)) = cc in
     cc (part-rest (c .before .before .least .result) (a .a .now), drop-least 14 (a .a .now), head-some E (a .m) (a .nonce) (a .a .now) (a .l) (search needs) (ap length (sym e)))
 
 pub mac-head-spec : {M : Type 1} → statement M
