@@ -65,6 +65,7 @@ use Rattle.frame.proofs.read as frame-read′
 use Rattle.frame.proofs.write as frame-write′
 use Rattle.frame.proofs.nonce as frame-nonce′
 use Rattle.frame.proofs.number_at as frame-number-at′
+use Rattle.fields.proofs.field_at as fields-field-at′
 use Rattle.header.proofs.nwk as header-nwk′
 use Rattle.header.proofs.aps as header-aps′
 use Rattle.header.proofs.application.ApsControl.taken as header-taken′
@@ -107,7 +108,6 @@ use Rattle.pouchkettle.proofs.pouchkettle_forget as pouchkettle-forget′
 use Rattle.pouchkettle.proofs.pouchkettle_reset as pouchkettle-reset′
 use Rattle.pouchkettle.proofs.pouchkettle_open_aps as pouchkettle-open-aps′
 use Rattle.pouchkettle.proofs.pouchkettle_secure_aps as pouchkettle-secure-aps′
-use Rattle.reader.proofs.field_at as reader-field-at′
 use Rattle.reader.proofs.start as reader-start′
 use Rattle.reader.proofs.next as reader-next′
 
@@ -307,6 +307,12 @@ frame-nonce κs a z z′ ws ws′ p q = (p ∙ sym q, refl)
 pub frame-number-at : Decides frame-number-at′.ended frame-number-at′.Reads.Post
 unfolding Decides
 frame-number-at κs a z z′ ws ws′ p q = (p .0 ∙ sym (q .0), refl)
+
+-- ---- fields
+
+pub fields-field-at : Decides fields-field-at′.ended fields-field-at′.Reads.Post
+unfolding Decides
+fields-field-at κs a z z′ ws ws′ p q = (p ∙ sym q, refl)
 
 -- ---- header
 
@@ -570,10 +576,6 @@ unfolding Decides
 pouchkettle-secure-aps κs a z z′ ws ws′ p q = (λ i. record { told = (p .0 ∙ sym (q .0)) i; pairs = (p .1 ∙ sym (q .1)) i }, λ i. (tt, (tt, (tt, (tt, (tt, ((p .2 ∙ sym (q .2)) i, tt)))))))
 
 -- ---- reader
-
-pub reader-field-at : Decides reader-field-at′.ended reader-field-at′.Reads.Post
-unfolding Decides
-reader-field-at κs a z z′ ws ws′ p q = (p ∙ sym q, refl)
 
 pub reader-start : Decides reader-start′.ended reader-start′.Reads.Post
 unfolding Decides

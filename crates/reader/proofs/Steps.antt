@@ -1,5 +1,5 @@
 -- What each field leaves, on plain lists and records. Assumes nothing.
-use mathlib.Core.Path.{_≡_, refl, sym, ap, subst, _∙_}
+use mathlib.Core.Path.{_≡_, refl, sym, ap, _∙_}
 use mathlib.Core.Bool.{Bool, true, false, cond}
 use mathlib.Core.List.{List}
 use Prim.Native.Nat.{ℕ, _+_, _-_, _<_, _≤_}
@@ -7,7 +7,7 @@ use native.Mathlib.Omega.{arith}
 use lib.Dec.{leb, ltb}
 use lib.ListN.{length, getD, set, take, drop, length-drop}
 use lib.Seq.{take-all}
-use borrow.Author.Tests.{eq-eqb, lt-leb, lt-ltb, le-ltb, ltb-false}
+use borrow.Author.Tests.{eq-eqb, lt-leb, lt-ltb, le-ltb}
 use Rattle.laws.specs.Numbers.{field}
 use Rattle.answer.specs.declared.Answer.the-variants.{Refused}
 use Rattle.answer.specs.declared.Refusal.the-variants.{Unsupported}
@@ -25,18 +25,17 @@ use Rattle.protection.specs.Heard.{refused}
 use Rattle.nwk_by_value.specs.declared.OpenedWith.{OpenedWith}
 use Rattle.nwk_by_value.specs.With.{openedWith}
 use Rattle.nwk.specs.OpenNwk.{Opened, openNwk, nwkPlaced, nwkUnfit, unchanged}
-use Rattle.reader.specs.declared.fields.Field.{Field}
-use Rattle.reader.specs.declared.fields.FieldRead.{FieldRead}
-use Rattle.reader.specs.declared.fields.FieldRead.the-variants.{Whole, Cut, End}
+use Rattle.fields.specs.declared.FieldRead.{FieldRead}
+use Rattle.fields.specs.Fields.{fieldAt}
+use Rattle.reader.specs.declared.reading.Fault.the-variants as fault
 use Rattle.reader.specs.declared.reading.Reader.{Reader}
 use Rattle.reader.specs.declared.reading.Event.the-variants.{Tells}
-use Rattle.reader.specs.Fields.{fieldAt}
 use Rattle.reader.specs.Reading.{bad, quiet, withNwk, withKeys, withKey, withActive, counted, keyField, counterField, frameField, presented, taken, stepped}
 
 -- ---- a key row, by what the search found
 
 module _ (r : Reader) (body : List ℕ) (f : KeyFound) (size : length body ≡ 17) (room : r .nwk .keys .used < 2) (is-found : f ≡ keyFound (r .nwk .keys) (getD body 0 0)) where
-  pub key-repeated : f .found ≡ true → bad r ≡ keyField r body
+  pub key-repeated : f .found ≡ true → bad r fault.RepeatedKey ≡ keyField r body
   unfolding keyField
   key-repeated e = rw (eq-eqb (length body) 17 size, lt-leb 2 (r .nwk .keys .used) room, ← is-found, e)
 
@@ -55,13 +54,13 @@ module _ (r : Reader) (body : List ℕ) (long : length (r .rows) ≡ 64) (n s pl
   known : (b : Bool) → ltb place (r .used) ≡ b → hasRow counterRows (take (r .used) (r .rows)) (pair (getD body 0 0) (field body 1 8)) ≡ b
   known b e = rw (← is-number, ← is-sender) (lent-row counterRows (r .rows) (r .used) (pair n s) empty (omega arith) ∙ ap (λ (p : ℕ). ltb p (r .used)) (sym is-place) ∙ e)
 
-  pub row-repeated : place < r .used → bad r ≡ counterField r body
+  pub row-repeated : place < r .used → bad r fault.RepeatedRow ≡ counterField r body
   unfolding counterField
   row-repeated h = rw (eq-eqb (length body) 13 size, lt-leb 64 (r .used) room, known true (lt-ltb place (r .used) h))
 
   -- the new row goes after the last
   pub row-taken : (c : ℕ) → r .used ≤ place → c ≡ field body 9 4
-      → quiet (record { nwk = r .nwk; rows = set (r .rows) (r .used) (record { number = n; sender = s; counter = c }); used = r .used + 1; at = r .at; frames = r .frames }) ≡ counterField r body
+      → quiet (record { nwk = r .nwk; rows = set (r .rows) (r .used) (record { number = n; sender = s; counter = c }); used = r .used + 1; at = r .at; fields = r .fields; frames = r .frames }) ≡ counterField r body
   unfolding counterField
   row-taken c h is-counter =
       let fits : r .used ≤ capacity (length (r .rows)) = omega arith in
@@ -78,13 +77,13 @@ module _ (r : Reader) (body : List ℕ) where
       → openedWith o frame ≡ openNwk (r .nwk) (r .rows) (r .used) b
       → record {
         event = Tells (record { frame = k; told = t });
-        reader = record { nwk = withActive (r .nwk) (o .active); rows = o .rows; used = o .used; at = r .at; frames = k };
+        reader = record { nwk = withActive (r .nwk) (o .active); rows = o .rows; used = o .used; at = r .at; fields = r .fields; frames = k };
       } ≡ frameField r body
   unfolding frameField
   frame-opened b k t o frame is-body is-count is-told w =
       (λ i. record {
         event = Tells (record { frame = is-count i; told = (is-told ∙ ap (λ (x : Opened). told (x .answer)) w) i });
-        reader = record { nwk = withActive (r .nwk) ((w i) .active); rows = (w i) .rows; used = (w i) .used; at = r .at; frames = is-count i };
+        reader = record { nwk = withActive (r .nwk) ((w i) .active); rows = (w i) .rows; used = (w i) .used; at = r .at; fields = r .fields; frames = is-count i };
       })
       ∙ ap (frameField r) is-body
 
@@ -100,33 +99,17 @@ module _ (r : Reader) (body : List ℕ) where
   pub frame-refused : (k : ℕ) (t : Told) → k ≡ counted (r .frames) → t ≡ told (Refused Unsupported) → 1024 < length body
       → record {
         event = Tells (record { frame = k; told = t });
-        reader = record { nwk = r .nwk; rows = r .rows; used = r .used; at = r .at; frames = k };
+        reader = record { nwk = r .nwk; rows = r .rows; used = r .used; at = r .at; fields = r .fields; frames = k };
       } ≡ frameField r body
   unfolding frameField
   frame-refused k t is-count is-told h =
       (λ i. record {
         event = Tells (record { frame = is-count i; told = is-told i });
-        reader = record { nwk = r .nwk; rows = r .rows; used = r .used; at = r .at; frames = is-count i };
+        reader = record { nwk = r .nwk; rows = r .rows; used = r .used; at = r .at; fields = r .fields; frames = is-count i };
       })
       ∙ sym (ap (λ (x : Opened). record { event = Tells (record { frame = counted (r .frames); told = told (x .answer) }); reader = presented r x }) (too-long h))
 
 -- ---- one field
-
--- a whole field's body lies within the input
-abbrev Within : List ℕ → FieldRead → Type 0
-Within s (Whole f) = (f .from ≤ f .to) × (f .to ≤ length s)
-Within s Cut = 0 ≤ length s
-Within s End = 0 ≤ length s
-
-pub field-within : (s : List ℕ) (at : ℕ) (f : Field) → Whole f ≡ fieldAt s at → (f .from ≤ f .to) × (f .to ≤ length s)
-unfolding fieldAt
-field-within s at f e = subst (Within s) (sym e) (by (leb (length s) at) (ltb (length s) (at + 3 + field s (at + 1) 2)) refl)
-  where
-    by : (b d : Bool) → ltb (length s) (at + 3 + field s (at + 1) 2) ≡ d
-        → Within s (cond b End (cond d Cut (Whole (record { tag = getD s at 0; from = at + 3; to = at + 3 + field s (at + 1) 2 }))))
-    by true d h = omega arith
-    by false true h = omega arith
-    by false false h = (omega arith, omega (arith, ltb-false (length s) (at + 3 + field s (at + 1) 2) h))
 
 pub steps : (r : Reader) (s : List ℕ) (found f : FieldRead) → length s ≤ 65536 → found ≡ fieldAt s (r .at) → found ≡ f → taken r s f ≡ stepped r s
 unfolding stepped

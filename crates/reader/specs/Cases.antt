@@ -10,7 +10,7 @@ use Rattle.header.specs.Nwk.{nwkOf, nwkLength, nwkFixed}
 use Rattle.nib.specs.Keys.{keyFound}
 use Rattle.claims.specs.Claims.{nwkWho}
 use Rattle.nwk.specs.OpenNwk.{openNwk, nwkPlaced}
-use Rattle.reader.specs.Fields.{fieldAt}
+use Rattle.fields.specs.Fields.{fieldAt}
 use Rattle.reader.specs.Reading.{Printed, line, started, activeField, frameField, acted, stepped, printed, linesFrom, lines}
 
 abbrev case-15 : List ℕ

@@ -1,4 +1,3 @@
 pub mod Cases
-pub mod Fields
 pub mod Reading
 pub mod ReadingLaws

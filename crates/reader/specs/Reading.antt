@@ -15,14 +15,16 @@ use Rattle.nib.specs.Keys.{keyFound, none-found}
 use Rattle.nib.specs.Pairs.{Pair}
 use Rattle.nwk.specs.declared.state.Nwk.{Nwk}
 use Rattle.nwk.specs.OpenNwk.{Opened, openNwk}
-use Rattle.reader.specs.declared.fields.FieldRead.{FieldRead}
-use Rattle.reader.specs.declared.fields.FieldRead.the-variants as fields
+use Rattle.fields.specs.declared.FieldRead.{FieldRead}
+use Rattle.fields.specs.declared.FieldRead.the-variants as fields
+use Rattle.fields.specs.Fields.{fieldAt}
 use Rattle.reader.specs.declared.reading.Reader.{Reader}
 use Rattle.reader.specs.declared.reading.Line.{Line}
+use Rattle.reader.specs.declared.reading.Fault.{Fault}
+use Rattle.reader.specs.declared.reading.Fault.the-variants as fault
 use Rattle.reader.specs.declared.reading.Event.{Event}
 use Rattle.reader.specs.declared.reading.Event.the-variants.{Quiet, Tells, Bad, End}
 use Rattle.reader.specs.declared.reading.Step.{Step}
-use Rattle.reader.specs.Fields.{fieldAt}
 
 unfoldable pub started : Reader
 started = record {
@@ -30,22 +32,24 @@ started = record {
   rows = replicate 64 empty;
   used = 0;
   at = 0;
+  fields = 0;
   frames = 0;
 }
 
 -- ---- what a field leaves
 
 abbrev pub withNwk : Reader → Nwk → Reader
-withNwk r nwk = record { nwk = nwk; rows = r .rows; used = r .used; at = r .at; frames = r .frames }
+withNwk r nwk = record { nwk = nwk; rows = r .rows; used = r .used; at = r .at; fields = r .fields; frames = r .frames }
 
 abbrev pub withRows : Reader → List CounterRow → ℕ → Reader
-withRows r rows used = record { nwk = r .nwk; rows = rows; used = used; at = r .at; frames = r .frames }
+withRows r rows used = record { nwk = r .nwk; rows = rows; used = used; at = r .at; fields = r .fields; frames = r .frames }
 
-abbrev pub movedTo : Reader → ℕ → Reader
-movedTo r at = record { nwk = r .nwk; rows = r .rows; used = r .used; at = at; frames = r .frames }
+abbrev pub counted : ℕ → ℕ
+counted n = (n + 1) % 2 ^ 64
 
-abbrev pub bad : Reader → Step
-bad r = record { event = Bad; reader = r }
+-- a field that is not right: its number from 1, the place where it begins, and what is wrong
+abbrev pub bad : Reader → Fault → Step
+bad r fault = record { event = Bad (record { field = counted (r .fields); at = r .at; fault = fault }); reader = r }
 
 abbrev pub quiet : Reader → Step
 quiet r = record { event = Quiet; reader = r }
@@ -60,9 +64,9 @@ withKeys s keys = record { level = s .level; own = s .own; active = s .active; k
 
 unfoldable pub keyField : Reader → List ℕ → Step
 keyField r body =
-    cond (not (eqb (length body) 17)) (bad r)
-    (cond (leb 2 (r .nwk .keys .used)) (bad r)
-    (cond ((keyFound (r .nwk .keys) (getD body 0 0)) .found) (bad r)
+    cond (not (eqb (length body) 17)) (bad r fault.WrongLength)
+    (cond (leb 2 (r .nwk .keys .used)) (bad r fault.ThirdKey)
+    (cond ((keyFound (r .nwk .keys) (getD body 0 0)) .found) (bad r fault.RepeatedKey)
     (quiet (withNwk r (withKeys (r .nwk) (withKey (r .nwk .keys) (record { number = getD body 0 0; key = drop 1 body })))))))
 
 -- ---- 0x02: a counter row (number, sender, counter). Wrong length, surplus or repeated row: bad
@@ -73,9 +77,9 @@ withRow r after = withRows r (after .rows) (after .used)
 unfoldable pub counterField : Reader → List ℕ → Step
 counterField r body =
     let k : Pair = pair (getD body 0 0) (field body 1 8) in
-    cond (not (eqb (length body) 13)) (bad r)
-    (cond (leb 64 (r .used)) (bad r)
-    (cond (hasRow counterRows (take (r .used) (r .rows)) k) (bad r)
+    cond (not (eqb (length body) 13)) (bad r fault.WrongLength)
+    (cond (leb 64 (r .used)) (bad r fault.SurplusRow)
+    (cond (hasRow counterRows (take (r .used) (r .rows)) k) (bad r fault.RepeatedRow)
     (quiet (withRow r (recorded (r .rows) (r .used) k (field body 9 4))))))
 
 -- ---- 0x03: the active number
@@ -84,12 +88,9 @@ abbrev pub withActive : Nwk → ℕ → Nwk
 withActive s active = record { level = s .level; own = s .own; active = active; keys = s .keys }
 
 unfoldable pub activeField : Reader → List ℕ → Step
-activeField r body = cond (not (eqb (length body) 1)) (bad r) (quiet (withNwk r (withActive (r .nwk) (getD body 0 0))))
+activeField r body = cond (not (eqb (length body) 1)) (bad r fault.WrongLength) (quiet (withNwk r (withActive (r .nwk) (getD body 0 0))))
 
 -- ---- 0x10: an NWK frame is opened. Its number from 1, answer, start, length
-
-abbrev pub counted : ℕ → ℕ
-counted frames = (frames + 1) % 2 ^ 64
 
 abbrev pub presented : Reader → Opened → Reader
 presented r o = record {
@@ -97,6 +98,7 @@ presented r o = record {
   rows = o .rows;
   used = o .used;
   at = r .at;
+  fields = r .fields;
   frames = counted (r .frames);
 }
 
@@ -113,16 +115,22 @@ acted r tag body =
     (cond (eqb tag 0x02) (counterField r body)
     (cond (eqb tag 0x03) (activeField r body)
     (cond (eqb tag 0x10) (frameField r body)
-    (bad r))))
+    (bad r fault.UnknownTag))))
+
+-- the reader goes past a whole field, whatever the field gave
+abbrev pub past : Step → ℕ → Step
+past t to =
+    let r : Reader = t .reader in
+    record { event = t .event; reader = record { nwk = r .nwk; rows = r .rows; used = r .used; at = to; fields = counted (r .fields); frames = r .frames } }
 
 -- a cut field is bad; input over 65,536 bytes is bad, and that is checked first
 abbrev pub taken : Reader → List ℕ → FieldRead → Step
 taken r s fields.End = record { event = End; reader = r }
-taken r s fields.Cut = bad r
-taken r s (fields.Whole f) = acted (movedTo r (f .to)) (f .tag) (take (f .to - f .from) (drop (f .from) s))
+taken r s fields.Cut = bad r fault.CutField
+taken r s (fields.Whole f) = past (acted r (f .tag) (take (f .to - f .from) (drop (f .from) s))) (f .to)
 
 unfoldable pub stepped : Reader → List ℕ → Step
-stepped r s = cond (ltb 65536 (length s)) (bad r) (taken r s (fieldAt s (r .at)))
+stepped r s = cond (ltb 65536 (length s)) (bad r fault.InputTooLong) (taken r s (fieldAt s (r .at)))
 
 -- ---- what is printed: the lines of an input
 
@@ -134,7 +142,7 @@ pub data Printed : Type 0 where
 unfoldable pub printed : Event → List Printed → List Printed
 printed Quiet rest = rest
 printed (Tells l) rest = line l ∷ rest
-printed Bad rest = isBad ∷ []
+printed (Bad f) rest = isBad ∷ []
 printed End rest = []
 
 unfoldable pub linesFrom : ℕ → List ℕ → Reader → List Printed

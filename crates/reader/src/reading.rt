@@ -2,26 +2,27 @@
 ghost use mathlib.Core.Path.{_≡_};
 ghost use Prim.Native.Nat.{_≤_};
 ghost use lib.ListN.{length};
-ghost use Rattle.reader.specs.Reading.{started, bad, quiet, keyField, counterField, activeField, frameField, acted, stepped};
-use crate::fields::FieldRead;
-use crate::fields::field_at;
+ghost use Rattle.reader.specs.Reading.{started, bad, quiet, keyField, counterField, activeField, frameField, acted, past, stepped};
 use crate::rows::key_in;
 use crate::rows::repeated;
 use crate::rows::with_key;
 use answer::Answer;
 use answer::Refusal;
 use answer::Told;
+use fields::FieldRead;
+use fields::field_at;
 use nib::CounterRow;
 use nib::NetworkKey;
 use nib::NetworkKeys;
 use nwk::Nwk;
 
-// The gateway, the place in the input, and how many frames were presented.
+// The gateway, the place in the input, and how many fields were read and frames presented.
 pub struct Reader {
     pub nwk: Nwk,
     pub rows: [CounterRow; 64],
     pub used: usize,
     pub at: usize,
+    pub fields: u64,
     pub frames: u64,
 }
 
@@ -30,11 +31,30 @@ pub struct Line {
     pub told: Told,
 }
 
+// What is wrong with a field, or with the input.
+pub enum Fault {
+    UnknownTag,
+    WrongLength,
+    RepeatedKey,
+    RepeatedRow,
+    ThirdKey,
+    SurplusRow,
+    CutField,
+    InputTooLong,
+}
+
+// The field that is not right: its number from 1, and the place in the input where it begins.
+pub struct BadField {
+    pub field: u64,
+    pub at: usize,
+    pub fault: Fault,
+}
+
 // What a field gives: nothing to say, a line, the line `bad` (reading stops), or the end.
 pub enum Event {
     Quiet,
     Tells(Line),
-    Bad,
+    Bad(BadField),
     End,
 }
 
@@ -69,15 +89,19 @@ pub fn start() -> Reader
         rows: [empty; 64],
         used: 0,
         at: 0,
+        fields: 0,
         frames: 0,
     }
 }
 
-fn bad(reader: Reader) -> Step
-    ensures { λ r. ⌜ r ≡ bad reader ⌝ }
+// The reader stands where the field begins.
+fn bad(reader: Reader, fault: Fault) -> Step
+    ensures { λ r. ⌜ r ≡ bad reader fault ⌝ }
 {
+    let field = std::num::wrapping_add_u64(reader.fields, 1);
+    let at = reader.at;
     Step {
-        event: Event::Bad,
+        event: Event::Bad(BadField { field, at, fault }),
         reader,
     }
 }
@@ -96,16 +120,16 @@ fn key_field(reader: Reader, body: &[u8]) -> Step
     ensures { λ r. ⌜ r ≡ keyField reader (now (body .entry)) ⌝ }
 {
     if body.len() != 17 {
-        return bad(reader);
+        return bad(reader, Fault::WrongLength);
     }
     let mut nwk = reader.nwk;
     let keys = nwk.keys;
     if 2 <= keys.used {
-        return bad(reader);
+        return bad(reader, Fault::ThirdKey);
     }
     let number = body[0];
     if nib::key_of(keys, number).found {
-        return bad(reader);
+        return bad(reader, Fault::RepeatedKey);
     }
     let key = key_in(&body[1..]);
     let more = with_key(keys, NetworkKey { number, key });
@@ -120,18 +144,18 @@ fn counter_field(reader: Reader, body: &[u8]) -> Step
     ensures { λ r. ⌜ r ≡ counterField reader (now (body .entry)) ⌝ }
 {
     if body.len() != 13 {
-        return bad(reader);
+        return bad(reader, Fault::WrongLength);
     }
     let used = reader.used;
     if 64 <= used {
-        return bad(reader);
+        return bad(reader, Fault::SurplusRow);
     }
     let number = body[0];
     let sender = frame::number_at(body, 1, 8);
     let counter = frame::number_at(body, 9, 4) as u32;
     let mut rows = reader.rows;
     if repeated(rows, used, number, sender) < used {
-        return bad(reader);
+        return bad(reader, Fault::RepeatedRow);
     }
     rows[used] = CounterRow {
         number,
@@ -149,7 +173,7 @@ fn active_field(reader: Reader, body: &[u8]) -> Step
     ensures { λ r. ⌜ r ≡ activeField reader (now (body .entry)) ⌝ }
 {
     if body.len() != 1 {
-        return bad(reader);
+        return bad(reader, Fault::WrongLength);
     }
     let mut nwk = reader.nwk;
     nwk.active = body[0];
@@ -178,6 +202,7 @@ fn open_copy(reader: Reader, body: &[u8]) -> Step
         rows: after,
         used: opened.used,
         at: reader.at,
+        fields: reader.fields,
         frames: number,
     };
     let line = Line {
@@ -218,8 +243,19 @@ fn acted(reader: Reader, tag: u8, body: &[u8]) -> Step
         0x02 => counter_field(reader, body),
         0x03 => active_field(reader, body),
         0x10 => frame_field(reader, body),
-        _ => bad(reader),
+        _ => bad(reader, Fault::UnknownTag),
     }
+}
+
+// The step, with the reader past its field.
+fn past(step: Step, to: usize) -> Step
+    ensures { λ r. ⌜ r ≡ past step to ⌝ }
+{
+    let event = step.event;
+    let mut reader = step.reader;
+    reader.at = to;
+    reader.fields = std::num::wrapping_add_u64(reader.fields, 1);
+    Step { event, reader }
 }
 
 // One field of the input s, from where the reader stands.
@@ -227,20 +263,18 @@ pub fn next(reader: Reader, s: &[u8]) -> Step
     ensures { λ r. ⌜ r ≡ stepped reader (now (s .entry)) ⌝ }
 {
     if 65536 < s.len() {
-        return bad(reader);
+        return bad(reader, Fault::InputTooLong);
     }
     match field_at(s, reader.at) {
         FieldRead::End => Step {
             event: Event::End,
             reader,
         },
-        FieldRead::Cut => bad(reader),
+        FieldRead::Cut => bad(reader, Fault::CutField),
         FieldRead::Whole(field) => {
             let from = field.from;
             let to = field.to;
-            let mut next = reader;
-            next.at = to;
-            acted(next, field.tag, &s[from..to])
+            past(acted(reader, field.tag, &s[from..to]), to)
         }
     }
 }

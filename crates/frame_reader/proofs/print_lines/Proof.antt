@@ -4,10 +4,10 @@ use Rattle.frame_reader.proofs.print_lines.Statement.{statement}
 use Rattle.frame_reader.proofs.print_lines.Tie as tie
 
 abbrev Inv-loop : tie.InvT-loop
-Inv-loop s state₀ left₀ t8 state left = Unit {0}
+Inv-loop s state₀ left₀ state left = Unit {0}
 
 abbrev μ-loop : tie.MeasureT-loop
-μ-loop s state₀ left₀ t8 state left = left
+μ-loop s state₀ left₀ state left = left
 
 pub print-lines-spec : {M : Type 1} → statement M
 print-lines-spec =

@@ -1,12 +1,14 @@
 -- `reader::reading::next` meets its contract. Assumes nothing.
-use mathlib.Core.Path.{_∙_, sym}
+use mathlib.Core.Path.{_∙_, ap, sym}
 use Prim.Native.Nat.{_≤_}
 use native.Mathlib.Omega.{arith}
 use lib.ListN.{length}
 use borrow.Author.Needs.{needs}
 use borrow.Author.Tests.{lt-ltb}
-use Rattle.reader.specs.Reading.{stepped}
-use Rattle.reader.proofs.Steps.{field-within, steps}
+use Rattle.reader.specs.declared.reading.Step.{Step}
+use Rattle.reader.specs.Reading.{past, stepped}
+use Rattle.fields.specs.FieldLaws.{field-within}
+use Rattle.reader.proofs.Steps.{steps}
 use Rattle.reader.proofs.reading.next.Statement.{statement}
 use Rattle.reader.proofs.reading.next.Tie as tie
 
@@ -31,8 +33,11 @@ returns-3 c =
 
 returns-4 : tie.Need-returns-4
 returns-4 c =
-    let a = c .before .before .before .before .before .before .before .before .args in
-    c .acted .ensures ∙ steps (a .reader) (a .s .now) _ _ (c .before .before .before .before .before .before .if1 .left) (c .before .before .before .before .before .field-at .ensures) (c .before .before .before .field .given .1)
+    let d = c .before in
+    let a = d .before .before .before .before .before .before .before .before .args in
+    let f = d .before .before .before .field .given .0 .0 in
+    c .past .ensures ∙ ap (λ (t : Step). past t (f .to)) (d .acted .ensures)
+    ∙ steps (a .reader) (a .s .now) _ _ (d .before .before .before .before .before .before .if1 .left) (d .before .before .before .before .before .field-at .ensures) (d .before .before .before .field .given .1)
 
 pub next-spec : {M : Type 1} → statement M
 next-spec =
@@ -48,6 +53,7 @@ next-spec =
     (λ c. within c .0)
     (λ c. within c .0)
     (λ c. within c .1)
+    (λ c κs. search needs)
     (λ c κs. search needs)
     returns-2
     returns-3

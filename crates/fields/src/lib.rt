@@ -1,6 +1,6 @@
 // A cursor over fields: tag 1 byte, length 2 bytes low first, and so many bytes.
 ghost use mathlib.Core.Path.{_≡_};
-ghost use Rattle.reader.specs.Fields.{fieldAt};
+ghost use Rattle.fields.specs.Fields.{fieldAt};
 
 // A field's body lies between two places of the input.
 pub struct Field {

@@ -5,8 +5,8 @@ use Prim.Native.Nat.{ℕ, _+_}
 use lib.Dec.{leb, ltb}
 use lib.ListN.{length, getD}
 use Rattle.laws.specs.Numbers.{field}
-use Rattle.reader.specs.declared.fields.FieldRead.{FieldRead}
-use Rattle.reader.specs.declared.fields.FieldRead.the-variants.{Whole, Cut, End}
+use Rattle.fields.specs.declared.FieldRead.{FieldRead}
+use Rattle.fields.specs.declared.FieldRead.the-variants.{Whole, Cut, End}
 
 -- the field at a place: its tag and where its body lies; or the end of the input, or a field that is cut
 unfoldable pub fieldAt : List ℕ → ℕ → FieldRead

@@ -1,13 +1,13 @@
--- `reader::fields::field_at` meets its contract. Assumes nothing.
+-- `fields::field_at` meets its contract. Assumes nothing.
 use native.Mathlib.Omega.{arith}
 use Prim.Native.Nat.{_+_}
 use lib.ListN.{length}
 use borrow.Author.Needs.{needs}
 use borrow.Author.Tests.{le-leb, lt-leb, le-ltb, lt-ltb}
 use Rattle.laws.specs.Numbers.{field}
-use Rattle.reader.specs.Fields.{fieldAt}
-use Rattle.reader.proofs.fields.field_at.Statement.{statement}
-use Rattle.reader.proofs.fields.field_at.Tie as tie
+use Rattle.fields.specs.Fields.{fieldAt}
+use Rattle.fields.proofs.field_at.Statement.{statement}
+use Rattle.fields.proofs.field_at.Tie as tie
 
 returns : tie.Need-returns
 unfolding fieldAt
