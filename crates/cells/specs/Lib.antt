@@ -15,3 +15,4 @@ pub mod ReorderLaws
 pub mod Desk
 pub mod DeskLaws
 pub mod Order
+pub mod Still

@@ -1,18 +1,21 @@
 -- Opening APS frames is a machine in the sense of `cells`: a frame acts on the row of its own sender alone. So the law of `cells` says
--- what order leaves as it is in a list of APS openings. Assumes nothing.
+-- what order leaves as it is in a list of APS openings; a state that is not taken answers every frame 7. Assumes nothing.
 use mathlib.Core.Path.{_≡_, refl, ap, _∙_}
+use mathlib.Core.Bool.{Bool, true, false, not}
 use mathlib.Core.List.{List}
 use mathlib.Core.Option.{Option, none, some, Option·some-injective, Option·none-ne-some, Option·some-ne-none}
 use Prim.Native.Nat.{ℕ, _+_, _≤_}
 use native.Mathlib.Omega.{arith}
 use lib.ListN.{length, drop, length-take}
 use lib.Seq.{take-append-seam}
-use borrow.Author.Tests.{eq-eqb, le-ltb}
+use lib.Dec.{eqb, ltb}
+use borrow.Author.Tests.{eq-eqb, eqb-true, le-ltb, ltb-false}
 use Rattle.cells.specs.Rows.{Reaction, leave, Settled, find, settle, replyOf}
 use Rattle.cells.specs.RowLaws.{settle-fits}
 use Rattle.cells.specs.Machine.{Machine}
 use Rattle.cells.specs.Reorder.{Reordered}
 use Rattle.cells.specs.Order.{any-order}
+use Rattle.cells.specs.Still.{still-alike}
 use Rattle.aib.specs.declared.pairs.PairRow.{PairRow}
 use Rattle.aib.specs.Counters.{inUse}
 use Rattle.aib.specs.Pairs.{Pair, pairRows}
@@ -20,8 +23,9 @@ use Rattle.claims.specs.declared.Who.{Who}
 use Rattle.claims.specs.declared.Who.the-variants.{Told, Claims}
 use Rattle.claims.specs.Claims.{apsWho, senderOf}
 use Rattle.protection.specs.Heard.{Heard}
-use Rattle.aps.specs.OpenAps.{Opened, apsJudged, apsPlaced, openAps}
+use Rattle.aps.specs.OpenAps.{Opened, apsJudged, apsPlaced, apsUnfit, openAps}
 use Rattle.order.specs.Frames.{leaves, says}
+use Rattle.order.specs.Kept.{nor, neither, not-not}
 use Rattle.order.specs.Aps.{Gateway, answer, after, ApsDesk, opened, names, newSenders, Alike}
 
 -- what a frame does to its sender's row, by what its headers say and what is held
@@ -37,6 +41,13 @@ settled o = record { out = record { answer = o .answer; frame = o .frame }; rows
 pub record Good (g : Gateway) : Type 0 where
   pub level : g .aps .level ≡ 5
   pub fits : g .pairs .used ≤ 16
+
+-- a state that is taken is good
+pub taken-good : (g : Gateway) → apsUnfit (g .aps) (g .pairs) ≡ false → Good g
+taken-good g e = record {
+  level = eqb-true (g .aps .level) 5 (not-not _ (nor (not (eqb (g .aps .level) 5)) _ e));
+  fits = ltb-false 16 (g .pairs .used) (neither (not (eqb (g .aps .level) 5)) _ e);
+}
 
 module _ (g : Gateway) (b : List ℕ) (h : Good g) where
   -- the state is taken
@@ -86,11 +97,24 @@ machine = record {
   nameless = λ g b h n. ap settled (opening g b h) ∙ nameless-placed g b h (apsWho b) n;
 }
 
-pub aps-alike : (d : ApsDesk) (p q : List ℕ) → d .state .aps .level ≡ 5 → d .state .pairs .used + length (newSenders d p) ≤ 16 → Reordered (names d) p q
+taken-alike : (d : ApsDesk) (p q : List ℕ) → Good (d .state) → d .state .pairs .used + length (newSenders d p) ≤ 16 → Reordered (names d) p q
     → Alike (opened d p) (opened d q)
 unfolding machine
-aps-alike d p q level free re =
-    let good : Good (d .state) = record { level = level; fits = omega arith } in
+taken-alike d p q good free re =
     let rows-free : length (inUse (d .state .pairs)) + length (newSenders d p) ≤ 16 = simp length-take (omega arith) in
     let same = any-order machine leaves says d p q good rows-free re in
     record { octets = same .buffers; answers = same .answers; pairs = same .cells }
+
+-- a state that is not taken stays as it is
+untaken-alike : (d : ApsDesk) (p q : List ℕ) → apsUnfit (d .state .aps) (d .state .pairs) ≡ true → Reordered (names d) p q → Alike (opened d p) (opened d q)
+unfolding openAps
+untaken-alike d p q unfit re =
+    let same = still-alike answer after leaves says pairRows (λ (g : Gateway). inUse (g .pairs)) d (λ b. rw unfit) p q re in
+    record { octets = same .buffers; answers = same .answers; pairs = same .cells }
+
+pub aps-alike : (d : ApsDesk) (p q : List ℕ) → d .state .pairs .used + length (newSenders d p) ≤ 16 → Reordered (names d) p q → Alike (opened d p) (opened d q)
+aps-alike d p q free re = at (apsUnfit (d .state .aps) (d .state .pairs)) refl
+  where
+    at : (t : Bool) → apsUnfit (d .state .aps) (d .state .pairs) ≡ t → Alike (opened d p) (opened d q)
+    at true e = untaken-alike d p q e re
+    at false e = taken-alike d p q (taken-good (d .state) e) free re

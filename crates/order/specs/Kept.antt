@@ -1,6 +1,6 @@
 -- What an opening leaves unless its answer is done, for any table: the common part of NwkKept.antt and ApsKept.antt. Assumes nothing.
 use mathlib.Core.Path.{_≡_, refl}
-use mathlib.Core.Bool.{Bool, true, false, cond, _||_}
+use mathlib.Core.Bool.{Bool, true, false, cond, not, _||_}
 use mathlib.Core.List.{List, _++_}
 use Prim.Native.Nat.{ℕ, _≤_}
 use native.Mathlib.Omega.{arith}
@@ -19,10 +19,18 @@ NotDone a = (start len : ℕ) → a ≡ Done start len → ⊥
 pub refused-not-done : {a : Answer} {why : Refusal} → a ≡ Refused why → NotDone a
 refused-not-done e start len f = let z : _≡_ {A = ℕ} 0 1 = cc in omega arith
 
--- where none of two holds, the second does not
+-- where none of two holds, the first does not, nor does the second
+pub nor : (x y : Bool) → (x || y) ≡ false → x ≡ false
+nor true y e = clash true refl e
+nor false y e = refl
+
 pub neither : (x y : Bool) → (x || y) ≡ false → y ≡ false
 neither true y e = clash true refl e
 neither false y e = e
+
+pub not-not : (x : Bool) → not x ≡ false → x ≡ true
+not-not true e = refl
+not-not false e = clash true refl e
 
 -- ---- what a judgement may say
 

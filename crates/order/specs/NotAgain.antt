@@ -62,14 +62,6 @@ above (some m) n e f h q =
     let other : n ≡ m → ⊥ = eqb-false n m e in
     omega (arith, ltb-false n m f)
 
-first-false : (x y : Bool) → (x || y) ≡ false → x ≡ false
-first-false true y e = clash true refl e
-first-false false y e = refl
-
-is-true : (x : Bool) → not x ≡ false → x ≡ true
-is-true true e = refl
-is-true false e = clash true refl e
-
 -- ---- NWK
 
 nwk-rising : (keys : NetworkKeys) (c : Claim) (held : Option ℕ) (b : List ℕ) → Rising (λ n. n) opens (c .counter) held (nwkJudged keys c held b)
@@ -94,25 +86,15 @@ module _ (keys : NetworkKeys) (b : List ℕ) where
   nwk-reacts (Claims c) k e held = nwk-rising keys c held b
 
 -- a state in which a frame opens is one that is taken
-module _ (g : nwk.Gateway) (b : List ℕ) where
-  nwk-good : opens (nwk.answer g b) ≡ true → (nwk-machine.Good (g .nwk .keys) (length (g .rows)) g) × (g .nwk .keys .used ≤ 2)
-  unfolding openNwk
-  nwk-good = at (nwkUnfit (g .nwk) (g .rows) (g .used)) refl
-    where
-      at : (t : Bool) → nwkUnfit (g .nwk) (g .rows) (g .used) ≡ t
-          → (let o = cond t (unchanged (g .nwk) (g .rows) (g .used) (refused Unsupported b)) (nwkPlaced (g .nwk) (g .rows) (g .used) b (nwkWho (g .nwk .keys) b)) in
-          opens (record { answer = o .answer; frame = o .frame }) ≡ true) → (nwk-machine.Good (g .nwk .keys) (length (g .rows)) g) × (g .nwk .keys .used ≤ 2)
-      at true e f = clash false f refl
-      at false e f =
-          let rest = neither (not (eqb (g .nwk .level) 5)) _ e in (
-            record {
-              level = eqb-true (g .nwk .level) 5 (is-true _ (first-false (not (eqb (g .nwk .level) 5)) _ e));
-              same-keys = refl;
-              same-lent = refl;
-              fits = ltb-false (capacity (length (g .rows))) (g .used) (neither (ltb 2 (g .nwk .keys .used)) _ rest);
-            },
-            ltb-false 2 (g .nwk .keys .used) (first-false (ltb 2 (g .nwk .keys .used)) _ rest),
-          )
+nwk-good : (g : nwk.Gateway) (b : List ℕ) → opens (nwk.answer g b) ≡ true → (nwk-machine.Good (g .nwk .keys) (length (g .rows)) g) × (g .nwk .keys .used ≤ 2)
+unfolding openNwk
+nwk-good g b = at (nwkUnfit (g .nwk) (g .rows) (g .used)) refl
+  where
+    at : (t : Bool) → nwkUnfit (g .nwk) (g .rows) (g .used) ≡ t
+        → (let o = cond t (unchanged (g .nwk) (g .rows) (g .used) (refused Unsupported b)) (nwkPlaced (g .nwk) (g .rows) (g .used) b (nwkWho (g .nwk .keys) b)) in
+        isDone (o .answer) ≡ true) → (nwk-machine.Good (g .nwk .keys) (length (g .rows)) g) × (g .nwk .keys .used ≤ 2)
+    at true e f = clash false f refl
+    at false e f = nwk-machine.taken-good g e
 
 -- A gateway opens `frame`, then hears any frames whatever, then `again`, which names the same key number and sender, with a counter not above
 -- that of `frame`: it does not open.
@@ -166,10 +148,7 @@ aps-good g b = at (apsUnfit (g .aps) (g .pairs)) refl
         → (let o = cond t (aps-unchanged (g .pairs) (refused Unsupported b)) (apsPlaced (g .pairs) b (apsWho b)) in opens (record { answer = o .answer; frame = o .frame }) ≡ true)
         → aps-machine.Good g
     at true e f = clash false f refl
-    at false e f = record {
-      level = eqb-true (g .aps .level) 5 (is-true _ (first-false (not (eqb (g .aps .level) 5)) _ e));
-      fits = ltb-false 16 (g .pairs .used) (neither (not (eqb (g .aps .level) 5)) _ e);
-    }
+    at false e f = aps-machine.taken-good g e
 
 -- The same for APS, by sender.
 pub aps-not-again : (g : aps.Gateway) (frame : List ℕ) (between : List (List ℕ)) (again : List ℕ) (sender : ℕ)

@@ -1,11 +1,13 @@
 -- Opening NWK frames is a machine in the sense of `cells`: a frame acts on the row of its own pair alone. Assumes nothing.
 use mathlib.Core.Path.{_≡_, refl, ap, _∙_}
+use mathlib.Core.Bool.{false, not}
 use mathlib.Core.List.{List}
 use mathlib.Core.Option.{Option, none, some, Option·some-injective, Option·none-ne-some, Option·some-ne-none}
 use Prim.Native.Nat.{ℕ, _≤_}
 use native.Mathlib.Omega.{arith}
 use lib.ListN.{length, take, length-append, length-drop, length-take}
-use borrow.Author.Tests.{eq-eqb, le-ltb}
+use lib.Dec.{eqb, ltb}
+use borrow.Author.Tests.{eq-eqb, eqb-true, le-ltb, ltb-false}
 use Rattle.cells.specs.Rows.{Reaction, leave, Settled, find, settle, replyOf}
 use Rattle.cells.specs.RowLaws.{settle-fits}
 use Rattle.cells.specs.Machine.{Machine}
@@ -19,7 +21,8 @@ use Rattle.claims.specs.declared.Who.{Who}
 use Rattle.claims.specs.declared.Who.the-variants.{Told, Claims}
 use Rattle.claims.specs.Claims.{numberOf, nwkWho, pairOf}
 use Rattle.protection.specs.Heard.{Heard}
-use Rattle.nwk.specs.OpenNwk.{Opened, nwkJudged, nwkPlaced, openNwk}
+use Rattle.nwk.specs.OpenNwk.{Opened, nwkJudged, nwkPlaced, nwkUnfit, openNwk}
+use Rattle.order.specs.Kept.{neither, nor, not-not}
 use Rattle.order.specs.Nwk.{Gateway, answer, after}
 
 -- what a frame does to its pair's row, by what its headers say and what is held
@@ -44,6 +47,19 @@ module _ (keys : NetworkKeys) (lent : ℕ) where
     pub same-keys : g .nwk .keys ≡ keys
     pub same-lent : length (g .rows) ≡ lent
     pub fits : g .used ≤ capacity lent
+
+-- a state that is taken is good
+pub taken-good : (g : Gateway) → nwkUnfit (g .nwk) (g .rows) (g .used) ≡ false → (Good (g .nwk .keys) (length (g .rows)) g) × (g .nwk .keys .used ≤ 2)
+taken-good g e =
+    let rest = neither (not (eqb (g .nwk .level) 5)) _ e in (
+      record {
+        level = eqb-true (g .nwk .level) 5 (not-not _ (nor (not (eqb (g .nwk .level) 5)) _ e));
+        same-keys = refl;
+        same-lent = refl;
+        fits = ltb-false (capacity (length (g .rows))) (g .used) (neither (ltb 2 (g .nwk .keys .used)) _ rest);
+      },
+      ltb-false 2 (g .nwk .keys .used) (nor (ltb 2 (g .nwk .keys .used)) _ rest),
+    )
 
 module _ (keys : NetworkKeys) (lent : ℕ) (two : keys .used ≤ 2) where
   -- the state is taken

@@ -1,7 +1,8 @@
--- What order leaves as it is in a list of NWK openings, by the law of `cells` and by what is known of the active number. Assumes nothing.
+-- What order leaves as it is in a list of NWK openings: of a state that is taken by the law of order of `cells` and by what is known of the
+-- active number, and of any other because it answers every frame 7. Assumes nothing.
 use mathlib.Core.Path.{_≡_, refl, sym, ap, _∙_}
 use mathlib.Core.Logic.{_↔_}
-use mathlib.Core.Bool.{Bool, true, cond}
+use mathlib.Core.Bool.{Bool, true, false, cond}
 use mathlib.Core.List.{List, List·Memᴰ as Mem}
 use Prim.Native.Nat.{ℕ, _+_, _≤_}
 use native.Mathlib.Omega.{arith}
@@ -12,16 +13,18 @@ use Rattle.cells.specs.Machine.{Machine, run}
 use Rattle.cells.specs.Reorder.{Reordered}
 use Rattle.cells.specs.DeskLaws.{desk-state}
 use Rattle.cells.specs.Order.{any-order, same-entries}
+use Rattle.cells.specs.Still.{still-state, still-alike}
 use Rattle.nib.specs.declared.counters.CounterRow.{CounterRow}
 use Rattle.nib.specs.declared.keys.NetworkKeys.{NetworkKeys}
 use Rattle.nib.specs.Active.{next}
-use Rattle.nib.specs.Counters.{capacity}
+use Rattle.nib.specs.Counters.{counterRows, capacity}
 use Rattle.nib.specs.Pairs.{Pair}
 use Rattle.claims.specs.Claims.{nwkWho, pairOf}
 use Rattle.protection.specs.Heard.{Heard}
+use Rattle.nwk.specs.OpenNwk.{nwkUnfit, openNwk}
 use Rattle.order.specs.Frames.{leaves, says}
 use Rattle.order.specs.Nwk.{Gateway, numbers, answer, after, NwkDesk, opened, names, newPairs, Alike}
-use Rattle.order.specs.NwkMachine.{Good, rowsInUse, machine}
+use Rattle.order.specs.NwkMachine.{Good, rowsInUse, machine, taken-good}
 use Rattle.order.specs.NwkActive.{opens, opens-named, turned}
 
 module _ (d : NwkDesk) (p q : List ℕ) (level : d .state .nwk .level ≡ 5) (two : d .state .nwk .keys .used ≤ 2)
@@ -56,9 +59,9 @@ module _ (d : NwkDesk) (p q : List ℕ) (level : d .state .nwk .level ≡ 5) (tw
       let x = opens-named upNext (pairOf (nwkWho keys (d .buffer (e .0)))) (e .1 .answer) t in
       same-entries itsMachine leaves says d p q good rows-free re (x .0) e (x .1)
 
-  pub nwk-alike : Alike (opened d p) (opened d q)
+  taken-alike : Alike (opened d p) (opened d q)
   unfolding machine
-  nwk-alike =
+  taken-alike =
       let same = any-order itsMachine leaves says d p q good rows-free re in
       record {
         octets = same .buffers;
@@ -72,3 +75,24 @@ module _ (d : NwkDesk) (p q : List ℕ) (level : d .state .nwk .level ≡ 5) (tw
             ∙ sym (turned keys lent two (d .buffer) (d .state) q good member)
             ∙ sym (ap (λ (g : Gateway). g .nwk .active) (desk-state answer after leaves says d q (re .once-after)));
       }
+
+-- a state that is not taken stays as it is
+untaken-alike : (d : NwkDesk) (p q : List ℕ) → nwkUnfit (d .state .nwk) (d .state .rows) (d .state .used) ≡ true → Reordered (names d) p q → Alike (opened d p) (opened d q)
+unfolding openNwk
+untaken-alike d p q unfit re =
+    let still : (b : List ℕ) → after (d .state) b ≡ d .state = λ b. rw unfit in
+    let same = still-alike answer after leaves says counterRows rowsInUse d still p q re in
+    record {
+      octets = same .buffers;
+      answers = same .answers;
+      counters = same .cells;
+      active = ap (λ (g : Gateway). g .nwk .active) (still-state answer after leaves says counterRows rowsInUse d still p q re);
+    }
+
+pub nwk-alike : (d : NwkDesk) (p q : List ℕ) → Mem (d .state .nwk .active) (numbers (d .state .nwk .keys))
+    → d .state .used + length (newPairs d p) ≤ capacity (length (d .state .rows)) → Reordered (names d) p q → Alike (opened d p) (opened d q)
+nwk-alike d p q member free re = at (nwkUnfit (d .state .nwk) (d .state .rows) (d .state .used)) refl
+  where
+    at : (t : Bool) → nwkUnfit (d .state .nwk) (d .state .rows) (d .state .used) ≡ t → Alike (opened d p) (opened d q)
+    at true e = untaken-alike d p q e re
+    at false e = let fit = taken-good (d .state) e in taken-alike d p q (fit .0 .level) (fit .1) member free re
