@@ -1,19 +1,15 @@
 -- Desks with the two frames of OnAir.antt, opened forth and back, and what they end with: computed. Assumes nothing.
 use mathlib.Core.Path.{_≡_, refl, sym, ap, _∙_}
-use mathlib.Core.Logic.{_⊎_, inl, inr}
 use mathlib.Core.Bool.{cond}
-use mathlib.Core.List.{List, [], _∷_, List·Memᴰ as Mem, List·Memᴰ·head as here, List·Memᴰ·tail as there, List·Memᴰ·not-nil as not-nil, List·Memᴰ·cases-cons as cases-cons, List·Memᴰ·eq-of-singleton as eq-of-singleton, Sublistᴰ as Sublist, Sublistᴰ·cases-cons-cons}
-use mathlib.Core.Option.{Option, none, some, Option·some-injective}
+use mathlib.Core.List.{List, [], _∷_}
+use mathlib.Core.Option.{none, some, Option·some-injective}
 use Prim.Native.Nat.{ℕ}
 use native.Mathlib.Omega.{arith}
 use lib.Dec.{eqb}
 use lib.ListN.{replicate}
-use Rattle.answer.specs.declared.Answer.{Answer}
 use Rattle.answer.specs.declared.Answer.the-variants.{Done, Refused}
 use Rattle.answer.specs.declared.Refusal.the-variants.{CounterRepeated, TableFull}
-use Rattle.answer.specs.Numbers.{told}
-use Rattle.cells.specs.Lists.{any, Distinct, Before}
-use Rattle.cells.specs.ListLaws.{part-mem, second}
+use Rattle.cells.specs.Lists.{any}
 use Rattle.cells.specs.Rows.{find, settle}
 use Rattle.cells.specs.Desk.{openAll}
 use Rattle.cells.specs.Reorder.{Reordered}
@@ -24,8 +20,8 @@ use Rattle.nib.specs.Counters.{empty, pair}
 use Rattle.nib.specs.Keys.{keyFound}
 use Rattle.nib.specs.Pairs.{Pair}
 use Rattle.nwk.specs.OpenNwk.{nwkPlaced, openNwk}
-use Rattle.order.specs.Frames.{Said}
 use Rattle.order.specs.Nwk.{NwkDesk, names, opened}
+use Rattle.needed.specs.TwoFrames.{forth, back, saying, turned}
 use Rattle.needed.specs.OnAir.{key, sender, underTwo, underThree, Has, two-claims, three-claims, two-opens, three-opens, two-again}
 
 -- ---- a gateway with the keys 2 and 3 and so many free rows, and frames in the buffers 0 and 1
@@ -50,12 +46,6 @@ both i = cond (eqb i 0) underTwo underThree
 abbrev pub copies : ℕ → List ℕ
 copies i = underTwo
 
-abbrev pub forth : List ℕ
-forth = 0 ∷ 1 ∷ []
-
-abbrev pub back : List ℕ
-back = 1 ∷ 0 ∷ []
-
 pub has-two : Has keys 2
 unfolding keyFound find
 has-two = refl
@@ -64,41 +54,9 @@ pub has-three : Has keys 3
 unfolding keyFound find
 has-three = refl
 
--- what is told of an answer, and the number that was told
-abbrev pub saying : Answer → Option Said
-saying a = some (a, told a)
-
-abbrev pub saidNumber : Option Said → ℕ
-saidNumber none = 0
-saidNumber (some x) = x .1 .number
-
--- ---- back is forth in another order
-
-pub forth-once : Distinct forth
-unfolding Distinct
-forth-once = (λ m. let e : _≡_ {A = ℕ} 0 1 = eq-of-singleton m in omega arith, (λ m. not-nil m, tt))
-
-pub back-once : Distinct back
-unfolding Distinct
-back-once = (λ m. let e : _≡_ {A = ℕ} 1 0 = eq-of-singleton m in omega arith, (λ m. not-nil m, tt))
-
-pub none-lost : (i : ℕ) → Mem i forth → Mem i back
-none-lost i m = at (cases-cons m)
-  where
-    at : (i ≡ 0) ⊎ Mem i (1 ∷ []) → Mem i back
-    at (inl e) = there (here e)
-    at (inr n) = here (eq-of-singleton n)
-
-pub none-added : (i : ℕ) → Mem i back → Mem i forth
-none-added i m = at (cases-cons m)
-  where
-    at : (i ≡ 1) ⊎ Mem i (0 ∷ []) → Mem i forth
-    at (inl e) = there (here e)
-    at (inr n) = here (eq-of-singleton n)
-
 -- the two frames of different numbers name different pairs
 pub reordered : (active places : ℕ) → Reordered (names (start active places both)) forth back
-reordered active places = record { once = forth-once; once-after = back-once; none-lost = none-lost; none-added = none-added; order-kept = kept }
+reordered active places = turned (names (start active places both)) apart
   where
     apart : (k : Pair) → names (start active places both) 0 ≡ some k → names (start active places both) 1 ≡ some k → ⊥
     apart k e f =
@@ -106,20 +64,6 @@ reordered active places = record { once = forth-once; once-after = back-once; no
         let y : some (pair 3 sender) ≡ some k = rw (three-claims keys has-three) at f in
         let z : _≡_ {A = ℕ} 2 3 = ap (λ (j : Pair). j .number) (Option·some-injective (pair 2 sender) (pair 3 sender) (x ∙ sym y)) in
         omega arith
-
-    first : (i j : ℕ) → Before i j forth → (i ≡ 0) × (j ≡ 1)
-    first i j d = at (Sublistᴰ·cases-cons-cons d)
-      where
-        last : Before i j [] ⊎ ((i ≡ 1) × Sublist (j ∷ []) []) → (i ≡ 0) × (j ≡ 1)
-        last (inl e) = absurd (not-nil (second e))
-        last (inr e) = absurd (not-nil (part-mem (e .1)))
-
-        at : Before i j (1 ∷ []) ⊎ ((i ≡ 0) × Sublist (j ∷ []) (1 ∷ [])) → (i ≡ 0) × (j ≡ 1)
-        at (inl e) = last (Sublistᴰ·cases-cons-cons e)
-        at (inr e) = (e .0, eq-of-singleton (part-mem (e .1)))
-
-    kept : (i j : ℕ) (k : Pair) → names (start active places both) i ≡ some k → names (start active places both) j ≡ some k → Before i j forth → Before i j back
-    kept i j k e f d = let x = first i j d in absurd (apart k (rw (x .0) at e) (rw (x .1) at f))
 
 -- ---- what the desks end with
 
