@@ -64,7 +64,7 @@ module _ (plain out aux : List ℕ) (header : ℕ) (whole : header ≤ length pl
 
   -- the payload sealed where it lies
   pub finished : (s : Aps) (row : PairRow) (identifier : KeyIdentifier) (key w v : List ℕ) → aux ≡ auxiliaryOctets (sent identifier) (row .outgoing) (s .own) 0
-      → key ≡ keyFor identifier (row .key) → w ≡ (front ++ aux) ++ (text ++ drop (length plain + 13) out)
+      → key ≡ (keyFor identifier (row .key)) .key → w ≡ (front ++ aux) ++ (text ++ drop (length plain + 13) out)
       → v ≡ securedOctets key (s .own) (row .outgoing) header (take (header + 13) w) (take (length plain - header) (drop (header + 13) w)) ++ drop (header + 13 + (length plain - header) + 4) w
       → v ≡ apsOnAir s row identifier plain header ++ drop (length plain + 17) out
   unfolding apsOnAir

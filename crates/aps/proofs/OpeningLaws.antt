@@ -14,7 +14,7 @@ use Rattle.answer.specs.declared.Answer.the-variants as answer
 use Rattle.answer.specs.declared.Outcome.{Outcome}
 use Rattle.answer.specs.declared.Outcome.the-variants.{Done, Refused}
 use Rattle.answer.specs.declared.Refusal.{Refusal}
-use Rattle.answer.specs.declared.Refusal.the-variants.{Unsupported, Cut, PairCounterRepeated, PairCounterBehind, WrongTag, TableFull}
+use Rattle.answer.specs.declared.Refusal.the-variants.{Unsupported, Cut, KeyNotAllowed, PairCounterRepeated, PairCounterBehind, WrongTag, TableFull}
 use Rattle.cells.specs.Lists.{any}
 use Rattle.cells.specs.Rows.{Reaction, leave, become, isRow, hasRow, find, put, room, settle}
 use Rattle.aib.specs.declared.pairs.PairRow.{PairRow}
@@ -23,7 +23,7 @@ use Rattle.aib.specs.Pairs.{Pair, pairOf, pairRows, answered, pairFound}
 use Rattle.aib.specs.Counters.{inUse, holding, heard, recorded}
 use Rattle.control.specs.Control.{identifierOf}
 use Rattle.claims.specs.declared.Claim.{Claim}
-use Rattle.protection.specs.Keys.{keyFor}
+use Rattle.protection.specs.Keys.{Choice, keyFor}
 use Rattle.protection.specs.Heard.{Heard, refused, equals, below}
 use Rattle.protection.specs.Protection.{payloadSize, vouches, openedOctets}
 use Rattle.claims.specs.declared.Who.the-variants.{Told, Claims}
@@ -35,18 +35,19 @@ use Rattle.aps.specs.Opening.{heldIn, allowed, tried, replied, kept, com
 -- ---- the tests before the tag, and the rest
 
 module _ (c : Claim) (held : Option Pair) (free : Bool) (b : List ℕ) where
-  abbrev pub key : List ℕ
-  key = keyFor (identifierOf (c .control .byte)) (linkKey held)
+  abbrev pub chosen : Choice
+  chosen = keyFor (identifierOf (c .control .byte)) (linkKey held)
 
-  abbrev pub reaction : Bool → Bool → Bool → Bool → Reaction Heard Pair
-  reaction repeated behind cut right =
+  abbrev pub reaction : Bool → Bool → Bool → Bool → Bool → Reaction Heard Pair
+  reaction repeated behind cut barred right =
       cond repeated (leave (refused PairCounterRepeated b))
       (cond behind (leave (refused PairCounterBehind b))
       (cond cut (leave (refused Cut b))
+      (cond barred (leave (refused KeyNotAllowed b))
       (cond (not right) (leave (refused WrongTag b))
       (become (heard held (c .counter))
-      (record { answer = answer.Done (c .payload) (payloadSize (c .payload) b); frame = openedOctets key (c .sender) (c .counter) (c .at) (c .payload) b })
-      (refused TableFull b)))))
+      (record { answer = answer.Done (c .payload) (payloadSize (c .payload) b); frame = openedOctets (chosen .key) (c .sender) (c .counter) (c .at) (c .payload) b })
+      (refused TableFull b))))))
 
   abbrev outcome : Bool → Bool → Bool → Outcome
   outcome repeated behind cut = cond repeated (Refused PairCounterRepeated) (cond behind (Refused PairCounterBehind) (cond cut (Refused Cut) Done))
@@ -54,32 +55,49 @@ module _ (c : Claim) (held : Option Pair) (free : Bool) (b : List ℕ) where
   pub judged-refused : (why : Refusal) → allowed c (incoming held) (length b) ≡ Refused why → refused why b ≡ replied free (apsJudged c held b)
   unfolding allowed apsJudged
   judged-refused why =
-      go (equals (incoming held) (c .counter)) (below (incoming held) (c .counter)) (ltb (length b) (c .payload + 4)) (vouches key (c .sender) (c .counter) (c .at) (c .payload) b)
+      go (equals (incoming held) (c .counter)) (below (incoming held) (c .counter)) (ltb (length b) (c .payload + 4)) (chosen .refused) (vouches (chosen .key) (c .sender) (c .counter) (c .at) (c .payload) b)
     where
       is : {q : Refusal} → Refused q ≡ Refused why → refused why b ≡ refused q b
       is {q} e = let z : q ≡ why = cc in rw z
 
-      go : (t1 t2 t3 t4 : Bool) → outcome t1 t2 t3 ≡ Refused why → refused why b ≡ replied free (reaction t1 t2 t3 t4)
-      go true t2 t3 t4 e = is e
-      go false true t3 t4 e = is e
-      go false false true t4 e = is e
-      go false false false t4 e = let z : _≡_ {A = ℕ} 0 1 = cc in absurd (omega arith)
+      go : (t1 t2 t3 t4 t5 : Bool) → outcome t1 t2 t3 ≡ Refused why → refused why b ≡ replied free (reaction t1 t2 t3 t4 t5)
+      go true t2 t3 t4 t5 e = is e
+      go false true t3 t4 t5 e = is e
+      go false false true t4 t5 e = is e
+      go false false false t4 t5 e = let z : _≡_ {A = ℕ} 0 1 = cc in absurd (omega arith)
 
-  pub judged-allowed : allowed c (incoming held) (length b) ≡ Done → (tried c key free b ≡ replied free (apsJudged c held b)) × (c .payload + 4 ≤ length b)
-  unfolding allowed apsJudged tried
-  judged-allowed =
-      go (equals (incoming held) (c .counter)) (below (incoming held) (c .counter)) (ltb (length b) (c .payload + 4)) (vouches key (c .sender) (c .counter) (c .at) (c .payload) b) refl
+  -- what is left where the counter and the size are right: the key, and the tag
+  pub record Allowed : Type 0 where
+    pub barred : chosen .refused ≡ true → refused KeyNotAllowed b ≡ replied free (apsJudged c held b)
+    pub judged : chosen .refused ≡ false → tried c (chosen .key) free b ≡ replied free (apsJudged c held b)
+    pub size : c .payload + 4 ≤ length b
+
+  is-allowed : equals (incoming held) (c .counter) ≡ false → below (incoming held) (c .counter) ≡ false → ltb (length b) (c .payload + 4) ≡ false → Allowed
+  unfolding apsJudged tried
+  is-allowed p q l = record {
+    barred = λ e. rw (p, q, l, e);
+    judged = λ e. rw (p, q, l, e) (by-tag (vouches (chosen .key) (c .sender) (c .counter) (c .at) (c .payload) b));
+    size = ltb-false (length b) (c .payload + 4) l;
+  }
     where
-      with-tag : (t4 : Bool) → cond (not t4) (refused WrongTag b) (cond free (record { answer = answer.Done (c .payload) (payloadSize (c .payload) b); frame = openedOctets key (c .sender) (c .counter) (c .at) (c .payload) b }) (refused TableFull b)) ≡ replied free (reaction false false false t4)
-      with-tag true = refl
-      with-tag false = refl
+      opens : Heard
+      opens = record { answer = answer.Done (c .payload) (payloadSize (c .payload) b); frame = openedOctets (chosen .key) (c .sender) (c .counter) (c .at) (c .payload) b }
 
-      go : (t1 t2 t3 t4 : Bool) → ltb (length b) (c .payload + 4) ≡ t3 → outcome t1 t2 t3 ≡ Done
-          → (cond (not t4) (refused WrongTag b) (cond free (record { answer = answer.Done (c .payload) (payloadSize (c .payload) b); frame = openedOctets key (c .sender) (c .counter) (c .at) (c .payload) b }) (refused TableFull b)) ≡ replied free (reaction t1 t2 t3 t4)) × (c .payload + 4 ≤ length b)
-      go true t2 t3 t4 l e = let z : _≡_ {A = ℕ} 0 1 = cc in absurd (omega arith)
-      go false true t3 t4 l e = let z : _≡_ {A = ℕ} 0 1 = cc in absurd (omega arith)
-      go false false true t4 l e = let z : _≡_ {A = ℕ} 0 1 = cc in absurd (omega arith)
-      go false false false t4 l e = (with-tag t4, ltb-false (length b) (c .payload + 4) l)
+      by-tag : (t : Bool) → cond (not t) (refused WrongTag b) (cond free opens (refused TableFull b))
+          ≡ replied free (cond (not t) (leave (refused WrongTag b)) (become (heard held (c .counter)) opens (refused TableFull b)))
+      by-tag true = refl
+      by-tag false = refl
+
+  pub judged-allowed : allowed c (incoming held) (length b) ≡ Done → Allowed
+  unfolding allowed
+  judged-allowed = go (equals (incoming held) (c .counter)) refl (below (incoming held) (c .counter)) refl (ltb (length b) (c .payload + 4)) refl
+    where
+      go : (t1 : Bool) → equals (incoming held) (c .counter) ≡ t1 → (t2 : Bool) → below (incoming held) (c .counter) ≡ t2 → (t3 : Bool) → ltb (length b) (c .payload + 4) ≡ t3
+          → outcome t1 t2 t3 ≡ Done → Allowed
+      go true p t2 q t3 l e = let z : _≡_ {A = ℕ} 0 1 = cc in absurd (omega arith)
+      go false p true q t3 l e = let z : _≡_ {A = ℕ} 0 1 = cc in absurd (omega arith)
+      go false p false q true l e = let z : _≡_ {A = ℕ} 0 1 = cc in absurd (omega arith)
+      go false p false q false l e = is-allowed p q l
 
 -- ---- what a search finds
 
@@ -135,19 +153,20 @@ module _ (pairs : Pairs) (c : Claim) (b : List ℕ) (sixteen : length (pairs .ro
   pub commits : finished (replied free (apsJudged c held b)) ≡ committed pairs c b
   unfolding committed apsJudged settle
   commits =
-      go (equals (incoming held) (c .counter)) (below (incoming held) (c .counter)) (ltb (length b) (c .payload + 4)) (vouches (key c held free b) (c .sender) (c .counter) (c .at) (c .payload) b) free refl
+      go (equals (incoming held) (c .counter)) (below (incoming held) (c .counter)) (ltb (length b) (c .payload + 4)) ((chosen c held free b) .refused) (vouches ((chosen c held free b) .key) (c .sender) (c .counter) (c .at) (c .payload) b) free refl
     where
       left : {h : Heard} → record { answer = h .answer; frame = h .frame; pairs = pairs } ≡ apsCommitted pairs (record { out = h; rows = inUse pairs })
       left {h} = λ i. record { answer = h .answer; frame = h .frame; pairs = sym (unmoved pairs (c .sender) sixteen few) i }
 
-      go : (t1 t2 t3 t4 r : Bool) → free ≡ r
-          → finished (replied r (reaction c held free b t1 t2 t3 t4)) ≡ apsCommitted pairs (settle pairRows 16 (inUse pairs) (c .sender) (reaction c held free b t1 t2 t3 t4))
-      go true t2 t3 t4 r e = left
-      go false true t3 t4 r e = left
-      go false false true t4 r e = left
-      go false false false false r e = left
-      go false false false true true e = rw (e, recorded-is pairs (c .sender) sixteen few (c .counter) true e)
-      go false false false true false e = rw e left
+      go : (t1 t2 t3 t4 t5 r : Bool) → free ≡ r
+          → finished (replied r (reaction c held free b t1 t2 t3 t4 t5)) ≡ apsCommitted pairs (settle pairRows 16 (inUse pairs) (c .sender) (reaction c held free b t1 t2 t3 t4 t5))
+      go true t2 t3 t4 t5 r e = left
+      go false true t3 t4 t5 r e = left
+      go false false true t4 t5 r e = left
+      go false false false true t5 r e = left
+      go false false false false false r e = left
+      go false false false false true true e = rw (e, recorded-is pairs (c .sender) sixteen few (c .counter) true e)
+      go false false false false true false e = rw e left
 
 -- ---- the whole
 

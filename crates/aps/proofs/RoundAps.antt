@@ -50,6 +50,13 @@ not-network Network n = let z : _≡_ {A = ℕ} 0 1 = cc in absurd (omega arith)
 not-network Transport n = refl
 not-network Load n = refl
 
+not-barred : (identifier : KeyIdentifier) (link : List ℕ) → hasNumber (sent identifier) ≡ false → (keyFor identifier link) .refused ≡ false
+unfolding hasNumber keyFor
+not-barred Link link n = refl
+not-barred Network link n = let z : _≡_ {A = ℕ} 0 1 = cc in absurd (omega arith)
+not-barred Transport link n = refl
+not-barred Load link n = refl
+
 -- ---- the gateway that hears it: the same link key for the sender (the trust centre's, where the sender has no row); a counter held for it, if
 -- there is one, is lower; and room
 
@@ -87,7 +94,7 @@ module _ (s : Aps) (pairs : Pairs) (d : ℕ) (extended : Bool) (plain out : List
   payload = drop header plain
 
   abbrev key : List ℕ
-  key = keyFor identifier (row .key)
+  key = (keyFor identifier (row .key)) .key
 
   abbrev octets : List ℕ
   octets = auxiliaryOctets (sent identifier) (row .outgoing) (s .own) 0
@@ -192,7 +199,7 @@ module _ (s : Aps) (pairs : Pairs) (d : ℕ) (extended : Bool) (plain out : List
           rw (← headers-length) (protection.vouched-for key (s .own) (row .outgoing) header headers payload inside) in
           let opens : openedOctets key (s .own) (row .outgoing) header (header + 13) frame ≡ opened =
           rw (← headers-length) (protection.opens key (s .own) (row .outgoing) header headers payload inside) in
-          rw (sent-identifier identifier, hears .same-key, n .0, n .1, enough, right, size, opens)
+          rw (sent-identifier identifier, hears .same-key, n .0, n .1, enough, not-barred identifier (row .key) (goes .number), right, size, opens)
 
       -- all that the opening leaves: the sender's row holds the counter
       pub heard-frame : openAps g theirs frame

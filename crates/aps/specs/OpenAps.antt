@@ -7,7 +7,7 @@ use lib.Dec.{eqb, ltb}
 use lib.ListN.{length}
 use Rattle.answer.specs.declared.Answer.{Answer}
 use Rattle.answer.specs.declared.Answer.the-variants.{Done}
-use Rattle.answer.specs.declared.Refusal.the-variants.{Unsupported, Cut, PairCounterRepeated, PairCounterBehind, WrongTag, TableFull}
+use Rattle.answer.specs.declared.Refusal.the-variants.{Unsupported, Cut, KeyNotAllowed, PairCounterRepeated, PairCounterBehind, WrongTag, TableFull}
 use Rattle.cells.specs.Rows.{Reaction, leave, become, Settled, find, settle}
 use Rattle.aib.specs.declared.pairs.PairRow.{PairRow}
 use Rattle.aib.specs.declared.pairs.Pairs.{Pairs}
@@ -19,7 +19,7 @@ use Rattle.claims.specs.declared.Who.{Who}
 use Rattle.claims.specs.declared.Who.the-variants.{Told, Claims}
 use Rattle.aps.specs.declared.state.Aps.{Aps}
 use Rattle.claims.specs.Claims.{apsWho}
-use Rattle.protection.specs.Keys.{keyFor}
+use Rattle.protection.specs.Keys.{Choice, keyFor}
 use Rattle.protection.specs.Heard.{Heard, refused, equals, below}
 use Rattle.protection.specs.Protection.{level, tagSize, payloadSize, vouches, openedOctets}
 
@@ -33,17 +33,20 @@ incoming none = none
 incoming (some p) = some (p .incoming)
 
 -- Known device and counter equal to its incoming counter: 33; below it: 34. Fewer than 4 bytes left: 2. Wrong tag: 5. Unknown device and no free row: 42.
+-- (A key identifier that chooses no key is 32. No frame comes so far: `apsWho` has refused it, in its place in the order.)
 -- Else 0, with the buffer as for NWK; the device's incoming counter is the frame's.
 unfoldable pub apsJudged : Claim → Option Pair → List ℕ → Reaction Heard Pair
 apsJudged c held b =
-    let key : List ℕ = keyFor (identifierOf (c .control .byte)) (linkKey held) in
+    let chosen : Choice = keyFor (identifierOf (c .control .byte)) (linkKey held) in
+    let key : List ℕ = chosen .key in
     cond (equals (incoming held) (c .counter)) (leave (refused PairCounterRepeated b))
     (cond (below (incoming held) (c .counter)) (leave (refused PairCounterBehind b))
     (cond (ltb (length b) (c .payload + tagSize)) (leave (refused Cut b))
+    (cond (chosen .refused) (leave (refused KeyNotAllowed b))
     (cond (not (vouches key (c .sender) (c .counter) (c .at) (c .payload) b)) (leave (refused WrongTag b))
     (become (heard held (c .counter))
     (record { answer = Done (c .payload) (payloadSize (c .payload) b); frame = openedOctets key (c .sender) (c .counter) (c .at) (c .payload) b })
-    (refused TableFull b)))))
+    (refused TableFull b))))))
 
 -- what a call leaves: answer, the frame's octets, and the pairs
 pub record Opened : Type 0 where

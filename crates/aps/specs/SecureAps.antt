@@ -55,7 +55,7 @@ apsAdded = 13 + 4
 
 unfoldable pub apsOnAir : Aps → PairRow → KeyIdentifier → List ℕ → ℕ → List ℕ
 apsOnAir s row identifier plain header =
-    securedOctets (keyFor identifier (row .key)) (s .own) (row .outgoing) header
+    securedOctets ((keyFor identifier (row .key)) .key) (s .own) (row .outgoing) header
     (take header plain ++ auxiliaryOctets (sent identifier) (row .outgoing) (s .own) 0)
     (drop header plain)
 

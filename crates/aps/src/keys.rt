@@ -12,14 +12,32 @@ fn hashed(link: [u8; 16], octet: u8) -> [u8; 16]
     primitives::keyed_hash(&link, &text).value
 }
 
-// The link key itself, or its hash for carrying keys. Opening refuses the network key's identifier, and securing never sends it.
-pub(crate) fn key_for(identifier: KeyIdentifier, link: [u8; 16]) -> [u8; 16]
-    ensures { λ r. ⌜ r ≡ keyFor identifier link ⌝ }
+// A key, or a refusal, which has a key of zeros.
+pub(crate) struct KeyChoice {
+    pub refused: bool,
+    pub key: [u8; 16],
+}
+
+// The link key itself, its hash for carrying keys, or a refusal: the network key is NWK's.
+pub(crate) fn key_for(identifier: KeyIdentifier, link: [u8; 16]) -> KeyChoice
+    ensures { λ r. ⌜ (r .refused ≡ (keyFor identifier link) .refused) × (r .key ≡ (keyFor identifier link) .key) ⌝ }
 {
     match identifier {
-        KeyIdentifier::Link => link,
-        KeyIdentifier::Network => link,
-        KeyIdentifier::Transport => hashed(link, 0x00),
-        KeyIdentifier::Load => hashed(link, 0x02),
+        KeyIdentifier::Link => KeyChoice {
+            refused: false,
+            key: link,
+        },
+        KeyIdentifier::Network => KeyChoice {
+            refused: true,
+            key: [0; 16],
+        },
+        KeyIdentifier::Transport => KeyChoice {
+            refused: false,
+            key: hashed(link, 0x00),
+        },
+        KeyIdentifier::Load => KeyChoice {
+            refused: false,
+            key: hashed(link, 0x02),
+        },
     }
 }

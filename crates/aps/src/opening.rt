@@ -95,7 +95,11 @@ fn judged(claim: Claim, held: PairFound, room: bool, frame: &mut [u8]) -> Answer
     match allowed(claim, held, frame.len()) {
         Outcome::Refused(refusal) => Answer::Refused(refusal),
         Outcome::Done => {
-            let key = key_for(control.key(), link_key(held));
+            let chosen = key_for(control.key(), link_key(held));
+            let key = chosen.key;
+            if chosen.refused {
+                return Answer::Refused(Refusal::KeyNotAllowed);
+            }
             tried(claim, key, room, frame)
         }
     }

@@ -61,7 +61,8 @@ fn put(
     let own = aps.own;
     let counter = row.outgoing;
     let link = row.key;
-    let key = key_for(identifier, link);
+    let chosen = key_for(identifier, link);
+    let key = chosen.key;
     let at = header + AUXILIARY;
     lay(own, counter, identifier, plain, header, out);
     protection::protect(key, own, counter, out, header, at, plain.len() - header);

@@ -10,6 +10,7 @@ pub mod FreeRows
 pub mod Machine
 pub mod Product
 pub mod Rising
+pub mod Once
 pub mod Reorder
 pub mod ReorderLaws
 pub mod Desk

@@ -12,7 +12,7 @@ level control = control % 8
 
 -- setting the level changes bits 0 to 2 and no other
 abbrev pub filled : ℕ → ℕ → ℕ
-filled control level = control / 8 * 8 + level % 8
+filled control wanted = control / 8 * 8 + wanted % 8
 
 -- 4.5.1.1.2: bits 3 and 4
 abbrev pub identifier : ℕ → ℕ

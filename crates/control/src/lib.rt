@@ -41,11 +41,11 @@ impl Control {
     }
 
     // Bits 0 to 2 become the level's; no other bit changes.
-    pub fn filled(self, level: u8) -> Control
-        ensures { λ r. ⌜ r .byte ≡ filled (self .byte) level ⌝ }
+    pub fn filled(self, wanted: u8) -> Control
+        ensures { λ r. ⌜ r .byte ≡ filled (self .byte) wanted ⌝ }
     {
         Control {
-            byte: self.byte & 0b1111_1000 | level & 0b0000_0111,
+            byte: self.byte & 0b1111_1000 | wanted & 0b0000_0111,
         }
     }
 

@@ -480,7 +480,7 @@ protection-protect κs a z z′ ws ws′ p q = (refl, λ i. (tt, (tt, (tt, ((p �
 
 -- ---- nwk
 
-abbrev nwk-open-nwk-promise : Promise nwk-open-nwk′.ended
+abbrev pub nwk-open-nwk-promise : Promise nwk-open-nwk′.ended
 nwk-open-nwk-promise κs a z e = opened z (e .1 .0 .now) (e .1 .1 .1 .0 .now) ≡ openNwk (a .0) (a .1 .0 .now) (a .1 .1 .0) (a .1 .1 .1 .0 .now)
 
 pub nwk-open-nwk-says : Says nwk-open-nwk′.ended nwk-open-nwk-promise (λ M. nwk-open-nwk′.clauses {M = M})

@@ -12,9 +12,9 @@ pub(crate) fn is_set(bits: u16, place: u16) -> bool
 }
 
 // How many octets a field takes that is there only if flagged.
-pub(crate) fn length_if(bits: u16, place: u16, length: usize) -> usize
+pub(crate) fn length_if(bits: u16, place: u16, size: usize) -> usize
     requires { ⌜ place < 16 ⌝ }
-    ensures { λ r. ⌜ r ≡ cond (bit place bits) length 0 ⌝ }
+    ensures { λ r. ⌜ r ≡ cond (bit place bits) size 0 ⌝ }
 {
-    if is_set(bits, place) { length } else { 0 }
+    if is_set(bits, place) { size } else { 0 }
 }

@@ -6,3 +6,5 @@ pub mod Needed
 pub mod ApsOnAir
 pub mod ApsDesks
 pub mod ApsNeeded
+pub mod Reuse
+pub mod Inhabited

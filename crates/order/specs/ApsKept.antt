@@ -1,34 +1,32 @@
 -- Opening and securing APS change nothing unless the answer is done. Assumes nothing.
 use mathlib.Core.Path.{_≡_, refl, ap, _∙_}
-use mathlib.Core.Bool.{Bool, true, false, cond, not, _||_, _&&_}
+use mathlib.Core.Bool.{Bool, true, false, cond, not}
 use mathlib.Core.List.{List}
-use mathlib.Core.Option.{Option, none, some}
+use mathlib.Core.Option.{Option}
 use Prim.Native.Nat.{ℕ, _+_, _≤_}
 use native.Mathlib.Omega.{arith}
 use lib.Dec.{eqb, ltb}
-use lib.ListN.{length, getD}
+use lib.ListN.{length}
 use lib.Seq.{length-take-le}
 use borrow.Author.Tests.{ltb-false}
 use Rattle.answer.specs.declared.Refusal.the-variants.{Unsupported}
-use Rattle.cells.specs.ListLaws.{either}
+use Rattle.cells.specs.ListLaws.{either, neither}
 use Rattle.cells.specs.Rows.{find}
-use Rattle.aib.specs.declared.pairs.PairRow.{PairRow}
 use Rattle.aib.specs.declared.pairs.Pairs.{Pairs}
 use Rattle.aib.specs.Counters.{inUse}
-use Rattle.cells.specs.First.{first}
-use Rattle.aib.specs.Pairs.{Pair, pairRows, mayUse}
-use Rattle.control.specs.declared.KeyIdentifier.{KeyIdentifier}
-use Rattle.header.specs.Aps.{apsTaken, apsLength, isCommand, isSecured}
+use Rattle.aib.specs.Pairs.{Pair, pairRows}
 use Rattle.claims.specs.declared.Claim.{Claim}
 use Rattle.claims.specs.declared.Who.{Who}
 use Rattle.claims.specs.declared.Who.the-variants.{Told, Claims}
-use Rattle.claims.specs.Claims.{spent, apsWho}
+use Rattle.claims.specs.Claims.{apsWho}
 use Rattle.protection.specs.Heard.{refused, equals, below}
+use Rattle.protection.specs.Keys.{keyFor}
 use Rattle.protection.specs.Protection.{tagSize, vouches}
 use Rattle.aps.specs.declared.state.Aps.{Aps}
 use Rattle.aps.specs.OpenAps.{incoming, apsJudged, Opened, unchanged, apsCommitted, apsPlaced, apsUnfit, openAps}
-use Rattle.aps.specs.SecureAps.{Secured, apsAdded, identifierFor, apsSent, apsKeyed, secureAps}
-use Rattle.order.specs.Kept.{NotDone, neither, Tame, stops, opens, settle-kept, over-same}
+use Rattle.aps.specs.SecureAps.{Secured, secureAps}
+use Rattle.order.specs.ApsSent.{Sent, not-sent, sent, securing}
+use Rattle.order.specs.Kept.{NotDone, Tame, stops, opens, settle-kept, over-same}
 
 -- ---- opening APS
 
@@ -38,7 +36,8 @@ aps-tame c held b =
     either (Tame b) (equals (incoming held) (c .counter)) (stops _)
     (either (Tame b) (below (incoming held) (c .counter)) (stops _)
     (either (Tame b) (ltb (length b) (c .payload + tagSize)) (stops _)
-    (either (Tame b) (not (vouches _ _ _ _ _ b)) (stops _) (opens _ _ _ _ _))))
+    (either (Tame b) ((keyFor _ _) .refused) (stops _)
+    (either (Tame b) (not (vouches _ _ _ _ _ b)) (stops _) (opens _ _ _ _ _)))))
 
 module _ (s : Aps) (pairs : Pairs) (sixteen : length (pairs .rows) ≡ 16) (b : List ℕ) where
   abbrev ApsKept : Opened → Type 0
@@ -70,26 +69,8 @@ module _ (s : Aps) (pairs : Pairs) (device : ℕ) (extended : Bool) (plain out :
   ApsUnsent x = NotDone (x .answer) → x ≡ record { answer = x .answer; out = out; pairs = pairs }
 
   pub aps-securing : ApsUnsent (secureAps s pairs device extended plain out)
-  unfolding secureAps
-  aps-securing =
-      either ApsUnsent (not (eqb (s .level) 5) || (ltb 16 (pairs .used) || ltb 1006 (length plain))) (λ n. refl)
-      (either ApsUnsent (eqb (length plain) 0) (λ n. refl)
-      (either ApsUnsent (not (apsTaken control) || not (isSecured control)) (λ n. refl)
-      (either ApsUnsent (ltb (length plain) header || (isCommand control && ltb (length plain) (header + 1))) (λ n. refl) (keyed (identifierFor plain header)))))
+  aps-securing = at (securing s pairs device extended plain out)
     where
-      control : ℕ
-      control = getD plain 0 0
-
-      header : ℕ
-      header = apsLength control
-
-      sent : (k : KeyIdentifier) (r : Option PairRow) → ApsUnsent (apsSent s pairs device extended k plain out header r)
-      sent k none = λ n. refl
-      sent k (some row) =
-          either ApsUnsent (eqb (row .outgoing) spent) (λ n. refl)
-          (either ApsUnsent (not (isCommand control) && not extended) (λ n. refl)
-          (either ApsUnsent (ltb (length out) (length plain + apsAdded)) (λ n. refl) (λ n. absurd (n 0 _ refl))))
-
-      keyed : (k : Option KeyIdentifier) → ApsUnsent (apsKeyed s pairs device extended plain out header k)
-      keyed none = λ n. refl
-      keyed (some k) = sent k (first (mayUse device) (inUse pairs))
+      at : {x : Secured} → Sent s pairs device extended plain out x → ApsUnsent x
+      at (not-sent why) n = refl
+      at (sent row identifier found chosen whole usable) n = absurd (n 0 _ refl)

@@ -10,6 +10,7 @@ use lib.ListN.{length, drop, length-take}
 use lib.Seq.{take-append-seam}
 use lib.Dec.{eqb, ltb}
 use borrow.Author.Tests.{eq-eqb, eqb-true, le-ltb, ltb-false}
+use Rattle.cells.specs.ListLaws.{nor, neither, not-not}
 use Rattle.cells.specs.Rows.{Reaction, leave, Settled, find, settle, replyOf}
 use Rattle.cells.specs.RowLaws.{settle-fits}
 use Rattle.cells.specs.Machine.{Machine}
@@ -25,7 +26,6 @@ use Rattle.claims.specs.Claims.{apsWho, senderOf}
 use Rattle.protection.specs.Heard.{Heard}
 use Rattle.aps.specs.OpenAps.{Opened, apsJudged, apsPlaced, apsUnfit, openAps}
 use Rattle.order.specs.Frames.{leaves, says}
-use Rattle.order.specs.Kept.{nor, neither, not-not}
 use Rattle.order.specs.Aps.{Gateway, answer, after, ApsDesk, opened, names, newSenders, Alike}
 
 -- what a frame does to its sender's row, by what its headers say and what is held

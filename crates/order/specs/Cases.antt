@@ -1,13 +1,16 @@
--- P1 TO P10: document 01's cases that are marked P, as one list, on the definitions that the promises use. Assumes nothing.
-use mathlib.Core.Path.{_≡_, refl}
-use mathlib.Core.Bool.{true, false}
+-- P1 TO P10: document 01's cases that are marked P, as one list, on the definitions that the promises use. That there are frames and states as the
+-- records here ask for is shown in the crate `needed`, specs/Inhabited.antt. Assumes nothing.
+use mathlib.Core.Path.{_≡_, refl, ap, _∙_}
+use mathlib.Core.Bool.{Bool, true, false, cond}
 use mathlib.Core.List.{List, [], _∷_}
 use mathlib.Core.Option.{some}
 use Prim.Native.Nat.{ℕ, _≤_, _<_}
+use native.Mathlib.Omega.{arith}
 use lib.ListN.{length, take}
 use borrow.Author.Tests.{eq-eqb, le-ltb, lt-leb}
 use Rattle.answer.specs.declared.Answer.{Answer}
 use Rattle.answer.specs.declared.Answer.the-variants.{Done}
+use Rattle.answer.specs.declared.Refusal.the-variants.{Unsupported}
 use Rattle.answer.specs.Numbers.{outcomeNumber, told}
 use Rattle.cells.specs.Rows.{find, settle}
 use Rattle.control.specs.declared.KeyIdentifier.the-variants.{Link, Network, Transport, Load}
@@ -19,6 +22,7 @@ use Rattle.header.specs.declared.network.NwkRead.the-variants as nwk
 use Rattle.header.specs.Nwk.{nwkOf}
 use Rattle.primitives.specs.Hash.{padding}
 use Rattle.nib.specs.declared.counters.CounterRow.{CounterRow}
+use Rattle.nib.specs.Active.{turn}
 use Rattle.nib.specs.Counters.{counterRows, pair}
 use Rattle.nib.specs.Keys.{keyFound}
 use Rattle.nib.specs.Sending.{taken, restarted}
@@ -27,10 +31,12 @@ use Rattle.aib.specs.declared.pairs.Pairs.{Pairs}
 use Rattle.aib.specs.Counters.{inUse}
 use Rattle.aib.specs.Pairs.{Pair, pairRows}
 use Rattle.claims.specs.declared.Claim.{Claim}
-use Rattle.claims.specs.declared.Who.the-variants.{Claims}
+use Rattle.claims.specs.declared.Who.{Who}
+use Rattle.claims.specs.declared.Who.the-variants.{Told, Claims}
 use Rattle.claims.specs.Claims.{numberOf, nwkWho, apsWho}
+use Rattle.protection.specs.Heard.{refused}
 use Rattle.nwk.specs.declared.state.Nwk.{Nwk}
-use Rattle.nwk.specs.OpenNwk.{activeAfter, nwkJudged, nwkPlaced, nwkUnfit, openNwk}
+use Rattle.nwk.specs.OpenNwk.{unchanged, activeAfter, nwkJudged, nwkPlaced, nwkUnfit, openNwk}
 use Rattle.nwk.specs.SecureNwk.{secureNwk}
 use Rattle.aps.specs.declared.state.Aps.{Aps}
 use Rattle.aps.specs.OpenAps.{apsJudged, apsPlaced, apsUnfit, openAps}
@@ -47,7 +53,16 @@ pub record NwkHeard (s : Nwk) (rows : List CounterRow) (used : ℕ) (b : List �
   pub holds : find counterRows (take used rows) (pair (numberOf (claim .key)) (claim .sender)) ≡ some held
   pub counts : claim .counter ≡ counter
 
--- The same for an APS frame of a known device.
+-- An NWK frame opens, under this key number.
+pub record NwkOpens (s : Nwk) (rows : List CounterRow) (used : ℕ) (b : List ℕ) (number : ℕ) : Type 0 where
+  pub claim : Claim
+  pub claims : nwkWho (s .keys) b ≡ Claims claim
+  pub under : numberOf (claim .key) ≡ number
+  pub start : ℕ
+  pub len : ℕ
+  pub opens : (openNwk s rows used b) .answer ≡ Done start len
+
+-- As `NwkHeard`, for an APS frame of a known device.
 pub record ApsHeard (s : Aps) (pairs : Pairs) (b : List ℕ) (held counter : ℕ) : Type 0 where
   pub claim : Claim
   pub known : Pair
@@ -82,15 +97,31 @@ pub record Cases : Type 0 where
       → (NwkHeard s rows used b 5 4 → numbered ((openNwk s rows used b) .answer) ≡ 34) × (NwkHeard s rows used b 5 5 → numbered ((openNwk s rows used b) .answer) ≡ 33)
   -- APS known with held 0, counter 0: 33, whatever else the frame and the pairs are
   pub p6 : (s : Aps) (pairs : Pairs) (b : List ℕ) → ApsHeard s pairs b 0 0 → numbered ((openAps s pairs b) .answer) ≡ 33
-  -- active 255, opened under 0: active 0
-  pub p7 : (start len : ℕ) → activeAfter 255 0 (Done start len) ≡ 0
-  -- active 7, opened under 9: active 7
-  pub p8 : (start len : ℕ) → activeAfter 7 9 (Done start len) ≡ 7
+  -- active 255, opened under 0: active 0, whatever else the frame, the keys and the rows are
+  pub p7 : (s : Nwk) (rows : List CounterRow) (used : ℕ) (b : List ℕ) → s .active ≡ 255 → NwkOpens s rows used b 0 → (openNwk s rows used b) .active ≡ 0
+  -- active 7, opened under 9: active 7, likewise
+  pub p8 : (s : Nwk) (rows : List CounterRow) (used : ℕ) (b : List ℕ) → s .active ≡ 7 → NwkOpens s rows used b 9 → (openNwk s rows used b) .active ≡ 7
   -- reset at 0x80000000, 0x80000001: unchanged, 0
   pub p9 : (restarted (record { next = 0x80000000 }) ≡ record { next = 0x80000000 }) × (restarted (record { next = 0x80000001 }) ≡ record { next = 0 })
   -- NWK outgoing 2^32-1: 6, on taking a counter and on securing
   pub p10 : (outcomeNumber ((taken (record { next = 4294967295 })) .outcome) ≡ 6)
       × ((s : Nwk) (plain out : List ℕ) → NwkSends s plain → numbered ((secureNwk s (record { next = 4294967295 }) plain out) .answer) ≡ 6)
+
+-- a frame that opens turns the active number
+turns : (s : Nwk) (rows : List CounterRow) (used : ℕ) (b : List ℕ) (n : ℕ) → NwkOpens s rows used b n → (openNwk s rows used b) .active ≡ turn (s .active) n
+unfolding openNwk nwkPlaced
+turns s rows used b n h = at (nwkUnfit s rows used) (h .opens)
+  where
+    placed : (w : Who) → w ≡ Claims (h .claim) → (nwkPlaced s rows used b w) .answer ≡ Done (h .start) (h .len) → (nwkPlaced s rows used b w) .active ≡ turn (s .active) n
+    placed (Told a) e f = let z : _≡_ {A = ℕ} 0 1 = cc in absurd (omega arith)
+    placed (Claims c) e f =
+        let same : numberOf (c .key) ≡ n = cc in
+        ap (activeAfter (s .active) (numberOf (c .key))) f ∙ ap (turn (s .active)) same
+
+    at : (t : Bool) → (cond t (unchanged s rows used (refused Unsupported b)) (nwkPlaced s rows used b (nwkWho (s .keys) b))) .answer ≡ Done (h .start) (h .len)
+        → (cond t (unchanged s rows used (refused Unsupported b)) (nwkPlaced s rows used b (nwkWho (s .keys) b))) .active ≡ turn (s .active) n
+    at true f = let z : _≡_ {A = ℕ} 0 1 = cc in absurd (omega arith)
+    at false f = placed (nwkWho (s .keys) b) (h .claims) f
 
 pub cases : Cases
 unfolding padding nwkJudged nwkPlaced openNwk secureNwk apsJudged apsPlaced openAps settle
@@ -102,8 +133,8 @@ cases = record {
   p5 = λ s rows used b.
       (λ h. rw (h .taken, h .claims, h .holds, h .counts), λ h. rw (h .taken, h .claims, h .holds, h .counts));
   p6 = λ s pairs b h. rw (h .taken, h .claims, h .row, h .holds, h .counts);
-  p7 = λ start len. nib.p7;
-  p8 = λ start len. nib.p8;
+  p7 = λ s rows used b a h. turns s rows used b 0 h ∙ rw a nib.p7;
+  p8 = λ s rows used b a h. turns s rows used b 9 h ∙ rw a nib.p8;
   p9 = nib.p9;
   p10 = (
     nib.p10,

@@ -1,6 +1,6 @@
 -- What an opening leaves unless its answer is done, for any table: the common part of NwkKept.antt and ApsKept.antt. Assumes nothing.
 use mathlib.Core.Path.{_≡_, refl}
-use mathlib.Core.Bool.{Bool, true, false, cond, not, _||_}
+use mathlib.Core.Bool.{Bool, true, false, cond}
 use mathlib.Core.List.{List, _++_}
 use Prim.Native.Nat.{ℕ, _≤_}
 use native.Mathlib.Omega.{arith}
@@ -9,7 +9,6 @@ use lib.Seq.{length-take-le}
 use Rattle.answer.specs.declared.Answer.{Answer}
 use Rattle.answer.specs.declared.Answer.the-variants.{Done, Refused}
 use Rattle.answer.specs.declared.Refusal.{Refusal}
-use Rattle.cells.specs.ListLaws.{clash}
 use Rattle.cells.specs.Rows.{Rows, Reaction, leave, become, Settled, put, room, settle}
 use Rattle.protection.specs.Heard.{Heard, refused}
 
@@ -18,19 +17,6 @@ NotDone a = (start len : ℕ) → a ≡ Done start len → ⊥
 
 pub refused-not-done : {a : Answer} {why : Refusal} → a ≡ Refused why → NotDone a
 refused-not-done e start len f = let z : _≡_ {A = ℕ} 0 1 = cc in omega arith
-
--- where none of two holds, the first does not, nor does the second
-pub nor : (x y : Bool) → (x || y) ≡ false → x ≡ false
-nor true y e = clash true refl e
-nor false y e = refl
-
-pub neither : (x y : Bool) → (x || y) ≡ false → y ≡ false
-neither true y e = clash true refl e
-neither false y e = e
-
-pub not-not : (x : Bool) → not x ≡ false → x ≡ true
-not-not true e = refl
-not-not false e = clash true refl e
 
 -- ---- what a judgement may say
 

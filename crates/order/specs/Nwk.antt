@@ -9,9 +9,10 @@ use Rattle.cells.specs.Desk.{Desk, openAll}
 use Rattle.nib.specs.declared.counters.CounterRow.{CounterRow}
 use Rattle.nib.specs.declared.keys.NetworkKey.{NetworkKey}
 use Rattle.nib.specs.declared.keys.NetworkKeys.{NetworkKeys}
-use Rattle.nib.specs.Counters.{counterRows}
+use Rattle.nib.specs.Counters.{counterRows, pair}
 use Rattle.nib.specs.Pairs.{Pair}
-use Rattle.claims.specs.Claims.{nwkWho, pairOf}
+use Rattle.claims.specs.declared.Claim.{Claim}
+use Rattle.claims.specs.Claims.{numberOf, nwkWho, pairOf}
 use Rattle.protection.specs.Heard.{Heard}
 use Rattle.nwk.specs.declared.state.Nwk.{Nwk}
 use Rattle.nwk.specs.OpenNwk.{openNwk}
@@ -28,6 +29,10 @@ pub record Gateway : Type 0 where
 -- the numbers of the network keys
 abbrev pub numbers : NetworkKeys → List ℕ
 numbers keys = map (λ (r : NetworkKey). r .number) (take (keys .used) (keys .rows))
+
+-- the pair of key number and sender that a frame claims
+abbrev pub claimedPair : Claim → Pair
+claimedPair c = pair (numberOf (c .key)) (c .sender)
 
 -- the counter that is held for a pair, if one is
 abbrev pub heldCounter : Gateway → Pair → Option ℕ

@@ -1,25 +1,20 @@
 -- Opening and securing NWK change nothing unless the answer is done. Assumes nothing.
 use mathlib.Core.Path.{_≡_, refl, ap, _∙_}
-use mathlib.Core.Bool.{Bool, true, false, cond, not, _||_}
+use mathlib.Core.Bool.{Bool, true, false, cond, not}
 use mathlib.Core.List.{List}
 use mathlib.Core.Option.{Option}
 use Prim.Native.Nat.{ℕ, _+_, _≤_}
 use native.Mathlib.Omega.{arith}
-use lib.Dec.{eqb, leb, ltb}
+use lib.Dec.{eqb, ltb}
 use lib.ListN.{length, take}
 use lib.Seq.{length-take-le}
 use borrow.Author.Tests.{ltb-false}
 use Rattle.answer.specs.declared.Answer.{Answer}
 use Rattle.answer.specs.declared.Answer.the-variants.{Done, Plain, Refused}
 use Rattle.answer.specs.declared.Refusal.the-variants.{Unsupported}
-use Rattle.cells.specs.ListLaws.{either}
+use Rattle.cells.specs.ListLaws.{either, neither}
 use Rattle.cells.specs.Rows.{Settled, find, settle}
-use Rattle.header.specs.declared.network.NwkRead.{NwkRead}
-use Rattle.header.specs.declared.network.NwkRead.the-variants as nwk
-use Rattle.header.specs.Nwk.{nwkOf}
 use Rattle.nib.specs.declared.outgoing.Outgoing.{Outgoing}
-use Rattle.nib.specs.Keys.{keyFound}
-use Rattle.nib.specs.Sending.{mayUse}
 use Rattle.nib.specs.declared.counters.CounterRow.{CounterRow}
 use Rattle.nib.specs.declared.keys.NetworkKeys.{NetworkKeys}
 use Rattle.nib.specs.Counters.{counterRows, capacity, pair}
@@ -32,8 +27,9 @@ use Rattle.protection.specs.Heard.{Heard, refused, equals, below}
 use Rattle.protection.specs.Protection.{tagSize, vouches}
 use Rattle.nwk.specs.declared.state.Nwk.{Nwk}
 use Rattle.nwk.specs.OpenNwk.{nwkJudged, Opened, unchanged, activeAfter, nwkCommitted, nwkPlaced, nwkUnfit, openNwk}
-use Rattle.nwk.specs.SecureNwk.{Secured, nwkAdded, nwkFramed, secureNwk}
-use Rattle.order.specs.Kept.{NotDone, neither, Tame, stops, opens, settle-kept, over-same}
+use Rattle.nwk.specs.SecureNwk.{Secured, secureNwk}
+use Rattle.order.specs.NwkSent.{Sent, not-sent, sent, securing}
+use Rattle.order.specs.Kept.{NotDone, Tame, stops, opens, settle-kept, over-same}
 
 -- ---- opening NWK
 
@@ -91,13 +87,8 @@ module _ (s : Nwk) (o : Outgoing) (plain out : List ℕ) where
   NwkUnsent x = NotDone (x .answer) → x ≡ record { answer = x .answer; out = out; outgoing = o }
 
   pub nwk-securing : NwkUnsent (secureNwk s o plain out)
-  unfolding secureNwk
-  nwk-securing = either NwkUnsent (not (eqb (s .level) 5) || (ltb 2 (s .keys .used) || ltb 1006 (length plain))) (λ n. refl) (framed (nwkOf plain))
+  nwk-securing = at (securing s o plain out)
     where
-      framed : (r : NwkRead) → NwkUnsent (nwkFramed s o plain out r)
-      framed nwk.Cut = λ n. refl
-      framed (nwk.Whole h) =
-          either NwkUnsent (leb 2 (h .kind) || not (h .secured)) (λ n. refl)
-          (either NwkUnsent (not ((keyFound (s .keys) (s .active)) .found)) (λ n. refl)
-          (either NwkUnsent (not (mayUse o)) (λ n. refl)
-          (either NwkUnsent (ltb (length out) (length plain + nwkAdded)) (λ n. refl) (λ n. absurd (n 0 _ refl)))))
+      at : {x : Secured} → Sent s o plain out x → NwkUnsent x
+      at (not-sent why) n = refl
+      at (sent header whole usable) n = absurd (n 0 _ refl)

@@ -8,22 +8,21 @@ use native.Mathlib.Omega.{arith}
 use lib.ListN.{length, take, length-append, length-drop, length-take}
 use lib.Dec.{eqb, ltb}
 use borrow.Author.Tests.{eq-eqb, eqb-true, le-ltb, ltb-false}
+use Rattle.cells.specs.ListLaws.{neither, nor, not-not}
 use Rattle.cells.specs.Rows.{Reaction, leave, Settled, find, settle, replyOf}
 use Rattle.cells.specs.RowLaws.{settle-fits}
 use Rattle.cells.specs.Machine.{Machine}
 use Rattle.nib.specs.declared.counters.CounterRow.{CounterRow}
 use Rattle.nib.specs.declared.keys.NetworkKeys.{NetworkKeys}
-use Rattle.nib.specs.Counters.{counterRows, capacity, pair}
+use Rattle.nib.specs.Counters.{counterRows, capacity}
 use Rattle.nib.specs.CounterLaws.{over-used}
 use Rattle.nib.specs.Pairs.{Pair}
-use Rattle.claims.specs.declared.Claim.{Claim}
 use Rattle.claims.specs.declared.Who.{Who}
 use Rattle.claims.specs.declared.Who.the-variants.{Told, Claims}
-use Rattle.claims.specs.Claims.{numberOf, nwkWho, pairOf}
+use Rattle.claims.specs.Claims.{nwkWho, pairOf}
 use Rattle.protection.specs.Heard.{Heard}
 use Rattle.nwk.specs.OpenNwk.{Opened, nwkJudged, nwkPlaced, nwkUnfit, openNwk}
-use Rattle.order.specs.Kept.{neither, nor, not-not}
-use Rattle.order.specs.Nwk.{Gateway, answer, after}
+use Rattle.order.specs.Nwk.{Gateway, claimedPair, answer, after}
 
 -- what a frame does to its pair's row, by what its headers say and what is held
 unfoldable pub reaction : NetworkKeys → List ℕ → Who → Option ℕ → Reaction Heard ℕ
@@ -36,9 +35,6 @@ rowsInUse g = take (g .used) (g .rows)
 -- what an opening gives its frame, and the rows in use after it
 abbrev pub settled : Opened → Settled Heard CounterRow
 settled o = record { out = record { answer = o .answer; frame = o .frame }; rows = take (o .used) (o .rows) }
-
-abbrev pub claimedPair : Claim → Pair
-claimedPair c = pair (numberOf (c .key)) (c .sender)
 
 module _ (keys : NetworkKeys) (lent : ℕ) where
   -- what no opening changes, and a count in use within its capacity

@@ -7,19 +7,19 @@ use Rattle.aps.proofs.keys.key_for.Tie as tie
 
 returns : tie.Need-returns
 unfolding keyFor
-returns c = rw (c .enum-told .given .1)
+returns c = let e = c .enum-told .given .1 in (rw e, rw e)
 
 returns-2 : tie.Need-returns-2
 unfolding keyFor
-returns-2 c = rw (c .enum-told2 .given .1)
+returns-2 c = let e = c .enum-told2 .given .1 in (rw e, rw e)
 
 returns-3 : tie.Need-returns-3
 unfolding keyFor
-returns-3 c = c .hashed .ensures ∙ rw (c .before .enum-told3 .given .1)
+returns-3 c = let e = c .before .enum-told3 .given .1 in (rw e, c .hashed .ensures ∙ rw e)
 
 returns-4 : tie.Need-returns-4
 unfolding keyFor
-returns-4 c = c .hashed2 .ensures ∙ rw (c .before .enum-told4 .given .1)
+returns-4 c = let e = c .before .enum-told4 .given .1 in (rw e, c .hashed2 .ensures ∙ rw e)
 
 pub key-for-spec : {M : Type 1} → statement M
 key-for-spec =

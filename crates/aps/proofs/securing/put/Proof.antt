@@ -11,12 +11,12 @@ returns : tie.Need-returns
 returns c =
     let p = c .before .before in
     let l = p .before .before .before .before in
-    let k = l .before .before in
+    let k = l .before .before .before in
     let s = k .before .before .before .before in
     let a = s .args in
     finished (a .plain .now) (a .out .now) (auxiliaryOctets (sent (a .identifier)) (a .row .outgoing) (a .aps .own) 0) (a .header) (s .pre .1) (s .pre .3) (thirteen (a .identifier) (a .row .outgoing) (a .aps .own) (s .pre .0)) (a .aps) (a .row) (a .identifier) _ _ _
     refl
-    (k .key-for .ensures)
+    (k .key-for .ensures .1)
     (l .lay .ensures)
     (p .protect .ensures)
 

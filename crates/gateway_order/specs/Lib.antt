@@ -1,0 +1,3 @@
+-- In reading order.
+pub mod Calls
+pub mod InAnyOrder
