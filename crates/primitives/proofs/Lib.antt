@@ -1,2 +1,1 @@
-pub mod HashLaws
-pub mod PaddingLaws
+pub mod KeyedLaws

@@ -5,7 +5,7 @@ use mathlib.Core.List.{List, _++_}
 use lib.Dec.{ltb}
 use lib.ListN.{length, replicate}
 use Rattle.laws.specs.Octets.{_⊕_}
-use Rattle.primitives.specs.Hash.{hash, filled}
+use Rattle.mmo.specs.Hash.{hash, filled}
 
 -- the octets 0x36 and 0x5C, repeated B times
 abbrev pub ipad : List ℕ

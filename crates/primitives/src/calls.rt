@@ -2,20 +2,15 @@
 ghost use mathlib.Core.Path.{_≡_};
 ghost use lib.ListN.{length};
 ghost use Rattle.answer.specs.Numbers.{whenDone};
-ghost use Rattle.primitives.specs.Hash.{hash, hashFrom, filled, zeroBlock};
+ghost use Rattle.mmo.specs.Hash.{hash, hashFrom, filled, zeroBlock};
+ghost use Rattle.mmo.specs.Stream.{hashing};
 ghost use Rattle.primitives.specs.KeyedHash.{keyedHash};
-ghost use Rattle.primitives.specs.Limits.{hashing, keyedHashing};
+ghost use Rattle.primitives.specs.Limits.{keyedHashing};
 use crate::keyed::keyed_digest;
 use crate::messages::digest;
-use crate::steps::first_block;
 use answer::Outcome;
 use answer::Refusal;
-
-// What a call answers.
-pub struct Digest {
-    pub outcome: Outcome,
-    pub value: [u8; 16],
-}
+use mmo::Digest;
 
 // Too much to take.
 fn refused() -> Digest
@@ -41,14 +36,14 @@ pub fn hash_from(initial: &[u8], message: &[u8]) -> Digest
     ensures { λ r. ⌜ (r .outcome ≡ hashing (length (now (message .entry))))
         × (r .value ≡ whenDone (r .outcome) (hashFrom (filled (now (initial .entry))) (now (message .entry))) zeroBlock) ⌝ }
 {
-    if message.len() < 8192 {
-        let value = digest(first_block(initial), message);
-        return Digest {
-            outcome: Outcome::Done,
-            value,
-        };
+    if 536870911 < message.len() {
+        return refused();
     }
-    refused()
+    let value = digest(mmo::hash_start_from(initial), message);
+    Digest {
+        outcome: Outcome::Done,
+        value,
+    }
 }
 
 // The keyed hash of a text.
@@ -56,10 +51,10 @@ pub fn keyed_hash(key: &[u8], text: &[u8]) -> Digest
     ensures { λ r. ⌜ (r .outcome ≡ keyedHashing (length (now (key .entry))) (length (now (text .entry))))
         × (r .value ≡ whenDone (r .outcome) (keyedHash (now (key .entry)) (now (text .entry))) zeroBlock) ⌝ }
 {
-    if 8175 < text.len() {
+    if 536870895 < text.len() {
         return refused();
     }
-    if 8191 < key.len() {
+    if 536870911 < key.len() {
         return refused();
     }
     let value = keyed_digest(key, text);

@@ -1,25 +1,24 @@
 // RFC 2104, section 2: the keyed hash.
 ghost use mathlib.Core.Path.{_≡_};
-ghost use Prim.Native.Nat.{_≤_, _<_};
+ghost use Prim.Native.Nat.{_≤_};
 ghost use lib.ListN.{length, replicate};
 ghost use Rattle.laws.specs.Octets.{_⊕_};
 ghost use Rattle.tables.specs.Rounds.{IsRound, IsSubstitution};
 ghost use Rattle.primitives.specs.KeyedHash.{keyBlock, keyedHash};
-use crate::messages::finish;
-use crate::steps::first_block;
-use crate::steps::step;
+use crate::messages::begun;
+use crate::messages::ended;
 
 // The key as one block.
 fn key_block(key: &[u8], round: &[u8; 2048], substitution: &[u8; 256]) -> [u8; 16]
     requires { ⌜ IsRound (now round) ⌝ }
     requires { ⌜ IsSubstitution (now substitution) ⌝ }
-    requires { ⌜ length (now key) < 8192 ⌝ }
+    requires { ⌜ length (now key) ≤ 536870911 ⌝ }
     ensures { λ r. ⌜ r ≡ keyBlock (now (key .entry)) ⌝ }
 {
     if 16 < key.len() {
-        return finish([0u8; 16], key, key.len(), round, substitution);
+        return ended(mmo::hash_start(), key, round, substitution);
     }
-    first_block(key)
+    mmo::first_block(key)
 }
 
 // K XOR ipad, K XOR opad: a block XORed with one byte, repeated.
@@ -36,20 +35,19 @@ fn masked(block: [u8; 16], byte: u8) -> [u8; 16]
 fn keyed_with(key: &[u8], text: &[u8], round: &[u8; 2048], substitution: &[u8; 256]) -> [u8; 16]
     requires { ⌜ IsRound (now round) ⌝ }
     requires { ⌜ IsSubstitution (now substitution) ⌝ }
-    requires { ⌜ (length (now key) < 8192) × (length (now text) ≤ 8175) ⌝ }
+    requires { ⌜ (length (now key) ≤ 536870911) × (length (now text) ≤ 536870895) ⌝ }
     ensures { λ r. ⌜ r ≡ keyedHash (now (key .entry)) (now (text .entry)) ⌝ }
 {
-    let zero = [0u8; 16];
     let k = key_block(key, round, substitution);
-    let x = step(zero, masked(k, 0x36), round, substitution);
-    let inner = finish(x, text, 16 + text.len(), round, substitution);
-    let y = step(zero, masked(k, 0x5c), round, substitution);
-    finish(y, &inner, 32, round, substitution)
+    let x = begun(masked(k, 0x36), round, substitution);
+    let inner = ended(x, text, round, substitution);
+    let y = begun(masked(k, 0x5c), round, substitution);
+    ended(y, &inner, round, substitution)
 }
 
 // The same, with the tables named here, once a keyed hash.
 pub(crate) fn keyed_digest(key: &[u8], text: &[u8]) -> [u8; 16]
-    requires { ⌜ (length (now key) < 8192) × (length (now text) ≤ 8175) ⌝ }
+    requires { ⌜ (length (now key) ≤ 536870911) × (length (now text) ≤ 536870895) ⌝ }
     ensures { λ r. ⌜ r ≡ keyedHash (now (key .entry)) (now (text .entry)) ⌝ }
 {
     let round = tables::ROUND;

@@ -1,11 +1,9 @@
-// The hash of the Zigbee specification, annex B.6 (Matyas-Meyer-Oseas over AES-128), and the keyed hash of RFC 2104 over it.
+// The hash of the Zigbee specification, annex B.6, of a whole message, and the keyed hash of RFC 2104 over it. `mmo` has the hash itself,
+// of data that come in parts, and what these calls answer (`mmo::Digest`).
 mod calls;
 mod keyed;
 mod messages;
-mod padding;
-mod steps;
 
-pub use calls::Digest;
 pub use calls::hash;
 pub use calls::hash_from;
 pub use calls::keyed_hash;

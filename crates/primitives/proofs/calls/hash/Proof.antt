@@ -1,6 +1,6 @@
 -- `primitives::calls::hash` meets its contract: the zero block, filled up, is the zero block. Assumes nothing.
 use borrow.Author.Needs.{needs}
-use Rattle.primitives.specs.Hash.{hash, filled}
+use Rattle.mmo.specs.Hash.{hash, filled}
 use Rattle.primitives.proofs.calls.hash.Statement.{statement}
 use Rattle.primitives.proofs.calls.hash.Tie as tie
 

@@ -2,10 +2,10 @@
 ghost use mathlib.Core.Path.{_≡_};
 ghost use Rattle.laws.specs.Blocks.{blocks};
 ghost use Rattle.tables.specs.Rounds.{IsRound, IsSubstitution};
-ghost use Rattle.primitives.specs.Hash.{step, steps, filled};
+ghost use Rattle.mmo.specs.Hash.{step, steps, filled};
 
 // The first 16 bytes of s; where there are fewer, zeros follow them.
-pub(crate) fn first_block(s: &[u8]) -> [u8; 16]
+pub fn first_block(s: &[u8]) -> [u8; 16]
     ensures { λ r. ⌜ r ≡ filled (now (s .entry)) ⌝ }
 {
     let mut x = [0u8; 16];

@@ -1,8 +1,8 @@
--- `primitives::steps::step` meets its contract. The callees' contracts in a row. Assumes nothing.
+-- `mmo::steps::step` meets its contract. The callees' contracts in a row. Assumes nothing.
 use borrow.Author.Needs.{needs}
-use Rattle.primitives.specs.Hash.{step}
-use Rattle.primitives.proofs.steps.step.Statement.{statement}
-use Rattle.primitives.proofs.steps.step.Tie as tie
+use Rattle.mmo.specs.Hash.{step}
+use Rattle.mmo.proofs.steps.step.Statement.{statement}
+use Rattle.mmo.proofs.steps.step.Tie as tie
 
 returns : tie.Need-returns
 unfolding step

@@ -1,4 +1,4 @@
--- `primitives::steps::run` meets its contract. The invariant: the steps from `y` over what is left are the steps over the whole.
+-- `mmo::steps::run` meets its contract. The invariant: the steps from `y` over what is left are the steps over the whole.
 -- Assumes nothing.
 use mathlib.Core.Path.{_≡_}
 use Prim.Native.Nat.{_-_, _≤_, _<_}
@@ -8,10 +8,10 @@ use lib.Seq.{drop-drop}
 use borrow.Author.Needs.{needs}
 use Rattle.laws.specs.Blocks.{blocks}
 use Rattle.laws.specs.Parts.{part-rest}
-use Rattle.primitives.specs.Hash.{steps}
-use Rattle.primitives.proofs.HashLaws.{steps-turn, steps-nil}
-use Rattle.primitives.proofs.steps.run.Statement.{statement}
-use Rattle.primitives.proofs.steps.run.Tie as tie
+use Rattle.mmo.specs.Hash.{steps}
+use Rattle.mmo.proofs.HashLaws.{steps-turn, steps-nil}
+use Rattle.mmo.proofs.steps.run.Statement.{statement}
+use Rattle.mmo.proofs.steps.run.Tie as tie
 
 abbrev Inv-loop : tie.InvT-loop
 Inv-loop s round substitution y₀ at₀ y at = steps y (blocks (drop at s)) ≡ steps y₀ (blocks s)

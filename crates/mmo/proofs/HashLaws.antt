@@ -1,14 +1,12 @@
--- Laws of the hash: a turn of its loop, messages in parts, and a first block taken by itself. Assumes nothing.
+-- Laws of the hash: a turn of its loop, and messages in parts. Assumes nothing.
 use mathlib.Core.Path.{_≡_, refl, sym, ap, _∙_}
-use mathlib.Core.Bool.{cond}
 use mathlib.Core.List.{List, [], _∷_, _++_, append-assoc, append-nil}
 use Prim.Native.Nat.{ℕ, zero, suc, _+_, _-_, _*_, _<_, _≤_}
 use native.Mathlib.Nat.{suc-ne-zero}
 use native.Mathlib.Numerals.{unary-clauses}
 use native.Mathlib.Omega.{arith}
-use lib.Dec.{ltb}
 use lib.ListN.{length, take, drop, replicate, length-take, length-drop, length-append, length-replicate, take-append-drop}
-use lib.Seq.{length-take-le, take-at, drop-at, take-append-le, drop-append-le, take-all}
+use lib.Seq.{length-take-le, take-append-le, drop-append-le, take-all}
 use Rattle.laws.specs.Octets.{_⊕_}
 use Rattle.laws.specs.XorLaws.{xor-length}
 use Rattle.laws.specs.Blocks.{blocks}
@@ -16,8 +14,7 @@ use Rattle.laws.specs.BlockLaws.{blocks-nil, blocks-cons}
 use Rattle.aes.specs.Cipher.{cipher}
 use Rattle.aes.specs.Schedule.{keyExpansion}
 use Rattle.aes.proofs.Lists.{cipher-length}
-use Rattle.primitives.specs.Hash.{padding, step, steps, hashFrom, hash, zeroBlock, filled}
-use Rattle.primitives.specs.KeyedHash.{ipad, opad, keyBlock, keyedHash}
+use Rattle.mmo.specs.Hash.{padding, step, steps, hashFrom, hash, zeroBlock, filled}
 
 -- zeros XOR a string are its front, filled up with zeros
 pub zeros-xor : (n : ℕ) (s : List ℕ) → replicate n 0 ⊕ s ≡ take n s ++ replicate (n - length (take n s)) 0
@@ -75,36 +72,6 @@ steps-parts h s t k w e l =
     let n : length (take w s) ≡ k * 16 = length-take-le w s l ∙ e in
     rw (← steps-append, ← blocks-append k (take w s) (drop w s ++ t) n, ← append-assoc, take-append-drop)
 
--- a first block taken by itself
-steps-after : (h b m : List ℕ) → length b ≡ 16 → steps h (blocks (b ++ m)) ≡ steps (step h b) (blocks m)
-unfolding filled
-steps-after h b m l =
-    let p : 0 < length (b ++ m) = simp length-append (omega arith) in
-    rw (steps-turn h (b ++ m) p, drop-at b m 16 l, take-at b m 16 l, l, append-nil)
-
-pub hash-after : (h b m : List ℕ) → length b ≡ 16 → hashFrom h (b ++ m) ≡ steps (step h b) (blocks (m ++ padding (16 + length m)))
-unfolding hashFrom
-hash-after h b m l =
-    let e : length (b ++ m) ≡ 16 + length m = simp length-append (omega arith) in
-    rw (e, append-assoc) (steps-after h b (m ++ padding (16 + length m)) l)
-
 pub hash-length : (m : List ℕ) → length (hash m) ≡ 16
 unfolding hash hashFrom
 hash-length m = steps-length zeroBlock (blocks (m ++ padding (length m))) refl
-
-key-block-length : (K : List ℕ) → length (keyBlock K) ≡ 16
-unfolding keyBlock
-key-block-length K = filled-length (cond (ltb 16 (length K)) (hash K) K)
-
--- the keyed hash as the code makes it: each of the two goes on from its first block
-pub keyed : (K text k x i y r : List ℕ) → k ≡ keyBlock K → x ≡ step zeroBlock (k ⊕ ipad) → i ≡ steps x (blocks (text ++ padding (16 + length text)))
-    → y ≡ step zeroBlock (k ⊕ opad) → r ≡ steps y (blocks (i ++ padding 32)) → r ≡ keyedHash K text
-unfolding keyedHash hash
-keyed K text k x i y r ek ex ei ey er =
-    let l : length k ≡ 16 = ap length ek ∙ key-block-length K in
-    let m : (p : List ℕ) → length (k ⊕ p) ≡ 16 = λ p. xor-length k p ∙ l in
-    let a : i ≡ hash ((k ⊕ ipad) ++ text) = cc (hash-after zeroBlock (k ⊕ ipad) text (m ipad)) in
-    let n : length i ≡ 16 = ap length a ∙ hash-length ((k ⊕ ipad) ++ text) in
-    let p : padding (16 + length i) ≡ padding 32 = ap (λ (j : ℕ). padding (16 + j)) n in
-    let b : r ≡ hash ((k ⊕ opad) ++ i) = cc (hash-after zeroBlock (k ⊕ opad) i (m opad)) in
-    b ∙ ap (λ (z : List ℕ). hash ((k ⊕ opad) ++ z)) a ∙ ap (λ (q : List ℕ). hash ((q ⊕ opad) ++ hash ((q ⊕ ipad) ++ text))) ek

@@ -1,0 +1,4 @@
+pub mod HashLaws
+pub mod PaddingLaws
+pub mod AddLaws
+pub mod StreamLaws
