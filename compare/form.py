@@ -62,15 +62,15 @@ def stop(words):
     sys.exit('compare: ' + words)
 
 
-def program():
-    """The command that runs crates/replay: by itself on x86-64, elsewhere under the kit's emulator, as rt runs it."""
+def program(name='replay'):
+    """The command that runs a program of crates/: by itself on x86-64, elsewhere under the kit's emulator, as rt runs it."""
     rt = shutil.which('rt')
-    path = TOP / 'target/bin/replay'
+    path = TOP / 'target/bin' / name
     if rt is None:
         stop('rt, of the Rattle kit, is not on PATH')
-    done = subprocess.run(['rt', 'check', 'replay'], cwd=TOP, stdout=subprocess.PIPE, stderr=subprocess.STDOUT, text=True)
+    done = subprocess.run(['rt', 'check', name], cwd=TOP, stdout=subprocess.PIPE, stderr=subprocess.STDOUT, text=True)
     if not path.exists():
-        stop('rt check replay built no program:\n' + done.stdout[-600:])
+        stop('rt check %s built no program:\n%s' % (name, done.stdout[-600:]))
     if platform.machine() == 'x86_64':
         return [str(path)]
     tools = pathlib.Path(os.path.realpath(rt)).parent.parent / 'on' / platform.machine() / 'toolchain'

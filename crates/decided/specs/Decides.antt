@@ -19,6 +19,7 @@ use denote.Triple.Entry.{Args, Res}
 use denote.Triple.Clauses.{Ended, Lasts, AtExit, atExit, Clauses}
 use Rattle.answer.specs.declared.Outcome.{Outcome}
 use Rattle.answer.specs.Numbers.{whenDone, told}
+use Rattle.mmo.specs.declared.stream.Hashing.{Hashing}
 use Rattle.nib.specs.Counters.{pair, left, heldFor, recorded, forgotten}
 use Rattle.nib.specs.CounterLaws as counters
 use Rattle.nib.specs.Sending.{took, taken}
@@ -49,6 +50,13 @@ use Rattle.aes.proofs.expand_with as aes-expand-with′
 use Rattle.aes.proofs.expand as aes-expand′
 use Rattle.ccm.proofs.seal as ccm-seal′
 use Rattle.ccm.proofs.unseal as ccm-unseal′
+use Rattle.mmo.proofs.first_block as mmo-first-block′
+use Rattle.mmo.proofs.hash_start as mmo-hash-start′
+use Rattle.mmo.proofs.hash_start_from as mmo-hash-start-from′
+use Rattle.mmo.proofs.hash_add_with as mmo-hash-add-with′
+use Rattle.mmo.proofs.hash_add as mmo-hash-add′
+use Rattle.mmo.proofs.hash_finish_with as mmo-hash-finish-with′
+use Rattle.mmo.proofs.hash_finish as mmo-hash-finish′
 use Rattle.primitives.proofs.hash as primitives-hash′
 use Rattle.primitives.proofs.hash_from as primitives-hash-from′
 use Rattle.primitives.proofs.keyed_hash as primitives-keyed-hash′
@@ -108,6 +116,10 @@ use Rattle.pouchkettle.proofs.pouchkettle_forget as pouchkettle-forget′
 use Rattle.pouchkettle.proofs.pouchkettle_reset as pouchkettle-reset′
 use Rattle.pouchkettle.proofs.pouchkettle_open_aps as pouchkettle-open-aps′
 use Rattle.pouchkettle.proofs.pouchkettle_secure_aps as pouchkettle-secure-aps′
+use Rattle.pouchkettle.proofs.pouchkettle_hash_start as pouchkettle-hash-start′
+use Rattle.pouchkettle.proofs.pouchkettle_hash_start_from as pouchkettle-hash-start-from′
+use Rattle.pouchkettle.proofs.pouchkettle_hash_add as pouchkettle-hash-add′
+use Rattle.pouchkettle.proofs.pouchkettle_hash_finish as pouchkettle-hash-finish′
 use Rattle.reader.proofs.start as reader-start′
 use Rattle.reader.proofs.next as reader-next′
 
@@ -131,6 +143,9 @@ Says T promise clauses =
 
 when-same : {r r′ : Outcome} (x y : List ℕ) → r ≡ r′ → whenDone r x y ≡ whenDone r′ x y
 when-same x y e = ap (λ (r : Outcome). whenDone r x y) e
+
+when-same-state : {r r′ : Outcome} (x y : Hashing) → r ≡ r′ → whenDone r x y ≡ whenDone r′ x y
+when-same-state x y e = ap (λ (r : Outcome). whenDone r x y) e
 
 cond-same : {r r′ : Bool} (x y : List ℕ) → r ≡ r′ → cond r x y ≡ cond r′ x y
 cond-same x y e = ap (λ (r : Bool). cond r x y) e
@@ -237,6 +252,36 @@ ccm-seal κs a z z′ ws ws′ p q = let e = p .0 ∙ sym (q .0) in (e, λ i. (t
 pub ccm-unseal : Decides ccm-unseal′.ended ccm-unseal′.Reads.Post
 unfolding Decides
 ccm-unseal κs a z z′ ws ws′ p q = let e = p .0 ∙ sym (q .0) in (e, λ i. (tt, (tt, (tt, ((p .1 ∙ when-same _ _ e ∙ sym (q .1)) i, (tt, (tt, tt)))))))
+
+-- ---- mmo
+
+pub mmo-first-block : Decides mmo-first-block′.ended mmo-first-block′.Reads.Post
+unfolding Decides
+mmo-first-block κs a z z′ ws ws′ p q = (p ∙ sym q, refl)
+
+pub mmo-hash-start : Decides mmo-hash-start′.ended mmo-hash-start′.Reads.Post
+unfolding Decides
+mmo-hash-start κs a z z′ ws ws′ p q = (p ∙ sym q, refl)
+
+pub mmo-hash-start-from : Decides mmo-hash-start-from′.ended mmo-hash-start-from′.Reads.Post
+unfolding Decides
+mmo-hash-start-from κs a z z′ ws ws′ p q = (p ∙ sym q, refl)
+
+pub mmo-hash-add-with : Decides mmo-hash-add-with′.ended mmo-hash-add-with′.Reads.Post
+unfolding Decides
+mmo-hash-add-with κs a z z′ ws ws′ p q = let e = p .0 ∙ sym (q .0) in (λ i. record { outcome = e i; state = (p .1 ∙ when-same-state _ _ e ∙ sym (q .1)) i }, refl)
+
+pub mmo-hash-add : Decides mmo-hash-add′.ended mmo-hash-add′.Reads.Post
+unfolding Decides
+mmo-hash-add κs a z z′ ws ws′ p q = let e = p .0 ∙ sym (q .0) in (λ i. record { outcome = e i; state = (p .1 ∙ when-same-state _ _ e ∙ sym (q .1)) i }, refl)
+
+pub mmo-hash-finish-with : Decides mmo-hash-finish-with′.ended mmo-hash-finish-with′.Reads.Post
+unfolding Decides
+mmo-hash-finish-with κs a z z′ ws ws′ p q = let e = p .0 ∙ sym (q .0) in (λ i. record { outcome = e i; value = (p .1 ∙ when-same _ _ e ∙ sym (q .1)) i }, refl)
+
+pub mmo-hash-finish : Decides mmo-hash-finish′.ended mmo-hash-finish′.Reads.Post
+unfolding Decides
+mmo-hash-finish κs a z z′ ws ws′ p q = let e = p .0 ∙ sym (q .0) in (λ i. record { outcome = e i; value = (p .1 ∙ when-same _ _ e ∙ sym (q .1)) i }, refl)
 
 -- ---- primitives
 
@@ -574,6 +619,22 @@ pouchkettle-open-aps κs a z z′ ws ws′ p q = (λ i. record { told = (p .0 �
 pub pouchkettle-secure-aps : Decides pouchkettle-secure-aps′.ended pouchkettle-secure-aps′.Reads.Post
 unfolding Decides
 pouchkettle-secure-aps κs a z z′ ws ws′ p q = (λ i. record { told = (p .0 ∙ sym (q .0)) i; pairs = (p .1 ∙ sym (q .1)) i }, λ i. (tt, (tt, (tt, (tt, (tt, ((p .2 ∙ sym (q .2)) i, tt)))))))
+
+pub pouchkettle-hash-start : Decides pouchkettle-hash-start′.ended pouchkettle-hash-start′.Reads.Post
+unfolding Decides
+pouchkettle-hash-start κs a z z′ ws ws′ p q = (p ∙ sym q, refl)
+
+pub pouchkettle-hash-start-from : Decides pouchkettle-hash-start-from′.ended pouchkettle-hash-start-from′.Reads.Post
+unfolding Decides
+pouchkettle-hash-start-from κs a z z′ ws ws′ p q = (p ∙ sym q, refl)
+
+pub pouchkettle-hash-add : Decides pouchkettle-hash-add′.ended pouchkettle-hash-add′.Reads.Post
+unfolding Decides
+pouchkettle-hash-add κs a z z′ ws ws′ p q = (λ i. record { number = (p .0 ∙ sym (q .0)) i; state = (p .1 ∙ sym (q .1)) i }, refl)
+
+pub pouchkettle-hash-finish : Decides pouchkettle-hash-finish′.ended pouchkettle-hash-finish′.Reads.Post
+unfolding Decides
+pouchkettle-hash-finish κs a z z′ ws ws′ p q = (λ i. record { number = (p .0 ∙ sym (q .0)) i; value = (p .1 ∙ sym (q .1)) i }, refl)
 
 -- ---- reader
 

@@ -20,7 +20,7 @@ use Rattle.frame.specs.Cases as frame
 use Rattle.header.specs.declared.network.NwkHeader.{NwkHeader}
 use Rattle.header.specs.declared.network.NwkRead.the-variants as nwk
 use Rattle.header.specs.Nwk.{nwkOf}
-use Rattle.primitives.specs.Hash.{padding}
+use Rattle.mmo.specs.Hash.{padding}
 use Rattle.nib.specs.declared.counters.CounterRow.{CounterRow}
 use Rattle.nib.specs.Active.{turn}
 use Rattle.nib.specs.Counters.{counterRows, pair}

@@ -27,7 +27,7 @@ use frame::KeyUsed;
 use frame::Sender;
 use header::ApsRead;
 use header::NwkRead;
-use primitives::Digest;
+use mmo::Digest;
 
 // Present or absent, in a number.
 fn flag(is: bool) -> u64 {

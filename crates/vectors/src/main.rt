@@ -5,7 +5,7 @@ ghost use Prim.Native.Nat.{_<_};
 use answer::Outcome;
 use libc::STDIN_FILENO;
 use libc::STDOUT_FILENO;
-use primitives::Digest;
+use mmo::Digest;
 
 // A part of the input.
 struct Span {
