@@ -105,6 +105,31 @@ pub struct ToldAps {
     pub pairs: Pairs,
 }
 
+/// The hash of a firmware file so far: the value over its whole blocks, the bytes that wait, and how many there were in all.
+#[repr(C)]
+#[derive(Clone, Copy, Debug, Default, PartialEq, Eq)]
+pub struct Hashing {
+    pub value: [u8; 16],
+    pub tail: [u8; 16],
+    pub total: u32,
+}
+
+/// A number, and the state after the part: it goes into the next call.
+#[repr(C)]
+#[derive(Clone, Copy, Debug, Default, PartialEq, Eq)]
+pub struct ToldHashing {
+    pub number: u8,
+    pub state: Hashing,
+}
+
+/// A number, and the value; zeros if refused.
+#[repr(C)]
+#[derive(Clone, Copy, Debug, Default, PartialEq, Eq)]
+pub struct ToldDigest {
+    pub number: u8,
+    pub value: [u8; 16],
+}
+
 unsafe extern "C" {
     fn pouchkettle_open_nwk(nwk: Nwk, rows: *mut CounterRow, lent: usize, used: usize, frame: *mut u8, len: usize) -> ToldNwk;
     fn pouchkettle_secure_nwk(nwk: Nwk, outgoing: *mut Outgoing, plain: *const u8, len: usize, out: *mut u8, room: usize) -> Told;
@@ -112,6 +137,10 @@ unsafe extern "C" {
     fn pouchkettle_reset(outgoing: Outgoing) -> Outgoing;
     fn pouchkettle_open_aps(aps: Aps, pairs: Pairs, frame: *mut u8, len: usize) -> ToldAps;
     fn pouchkettle_secure_aps(aps: Aps, pairs: Pairs, device: u64, extended: bool, plain: *const u8, len: usize, out: *mut u8, room: usize) -> ToldAps;
+    fn pouchkettle_hash_start() -> Hashing;
+    fn pouchkettle_hash_start_from(initial: *const u8, len: usize) -> Hashing;
+    fn pouchkettle_hash_add(state: Hashing, part: *const u8, len: usize) -> ToldHashing;
+    fn pouchkettle_hash_finish(state: Hashing) -> ToldDigest;
 }
 
 // Each call below is safe: a slice is passed with its own length, every struct is laid out as in the library, and the library asks nothing
@@ -145,4 +174,24 @@ pub fn open_aps(aps: Aps, pairs: Pairs, frame: &mut [u8]) -> ToldAps {
 /// Secures a plain APS frame for a device into `out` and takes a counter of its row. Refused: neither changes.
 pub fn secure_aps(aps: Aps, pairs: Pairs, device: u64, extended: bool, plain: &[u8], out: &mut [u8]) -> ToldAps {
     unsafe { pouchkettle_secure_aps(aps, pairs, device, extended, plain.as_ptr(), plain.len(), out.as_mut_ptr(), out.len()) }
+}
+
+/// The start of a firmware file's hash (AES-MMO, annex B.6).
+pub fn hash_start() -> Hashing {
+    unsafe { pouchkettle_hash_start() }
+}
+
+/// The same from an initial block, cut or filled with zeros to 16 bytes.
+pub fn hash_start_from(initial: &[u8]) -> Hashing {
+    unsafe { pouchkettle_hash_start_from(initial.as_ptr(), initial.len()) }
+}
+
+/// A part more. Past 536,870,911 bytes in all 7, the state as it was, and a shorter part may follow.
+pub fn hash_add(state: Hashing, part: &[u8]) -> ToldHashing {
+    unsafe { pouchkettle_hash_add(state, part.as_ptr(), part.len()) }
+}
+
+/// The value, which is the same for every cutting of the file into parts.
+pub fn hash_finish(state: Hashing) -> ToldDigest {
+    unsafe { pouchkettle_hash_finish(state) }
 }

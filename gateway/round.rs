@@ -71,9 +71,26 @@ fn newcomer() {
     assert_eq!((opened.told.number, opened.pairs.used, opened.pairs.rows[0]), (0, 1, row));
 }
 
+// The Zigbee specification's C.5.2 in two parts: 0xC0 to 0xCF. And the limit, every field looked at.
+fn firmware() {
+    let text: [u8; 16] = core::array::from_fn(|i| 0xc0 + i as u8);
+    let first = hash_add(hash_start(), &text[..5]);
+    let mut tail = [0; 16];
+    tail[..5].copy_from_slice(&text[..5]);
+    assert_eq!((hash_start(), first), (Hashing::default(), ToldHashing { number: 0, state: Hashing { value: [0; 16], tail, total: 5 } }));
+    let second = hash_add(first.state, &text[5..]);
+    let value = 0xa797_7e88_bc0b_61e8_2108_2710_9a22_8f2d_u128.to_be_bytes();
+    assert_eq!((second.number, second.state.total, hash_finish(second.state)), (0, 16, ToldDigest { number: 0, value }));
+    assert_eq!(hash_start_from(b"cut"), Hashing { value: *b"cut\0\0\0\0\0\0\0\0\0\0\0\0\0", ..Hashing::default() });
+    let last = Hashing { value: [1; 16], tail: [2; 16], total: 536_870_911 };
+    assert_eq!((hash_add(last, b"x"), hash_finish(last).number), (ToldHashing { number: 7, state: last }, 0));
+    assert_eq!(hash_finish(Hashing { total: 536_870_912, ..last }), ToldDigest { number: 7, value: [0; 16] });
+}
+
 fn main() {
     network();
     application();
     newcomer();
+    firmware();
     println!("the exported calls, done and refused: as promised");
 }

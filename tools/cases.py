@@ -1,5 +1,5 @@
 #!/usr/bin/env python3
-"""Writes crates/cases/stdin and crates/cases/stdout: the frames of document 01's cases, and what each case should print.
+"""Writes crates/cases/stdin and crates/cases/stdout: the frames of document 01's cases and W-207's, and what each case should print.
 
     python3 tools/cases.py            write the files
     python3 tools/cases.py --check    say whether they are as this program would write them
@@ -14,11 +14,12 @@ import sys
 from cryptography.hazmat.primitives.ciphers.aead import AESCCM
 
 from samples import PAIR_REPEATED, Gateway
-from vectors import mmo
+from vectors import blocks, mmo, padding
 
 SENDER = (0x0011223344556677).to_bytes(8, 'little')
 KEY = bytes(range(0x40, 0x50))
 NWK_HEADER = bytes.fromhex('0802 0000 3412 1E 01')
+LIMIT = 2 ** 29 - 1  # bytes that have fewer than 2^32 bits
 APS_HEADER = bytes.fromhex('20 01 0204 0401 01 07')
 frames, lines = [], []
 
@@ -50,7 +51,19 @@ def opened(name, active, number, counter, held=None, text=b'T'):
 
 
 def hashed(name, text):
-    line(name, 0 if len(text) < 8192 else 7, octets(mmo(text) if len(text) < 8192 else bytes(16)))
+    line(name, 0, octets(mmo(text)))
+
+
+def near(total, part):
+    """W-207: a state after so many bytes (value all 1, tail all 2), and a part more: the answer, the total, and the value."""
+    name, value, waiting = f'W-207 after {total} bytes {len(part)} more', b'\x01' * 16, (b'\x02' * 16)[:total % 16]
+    taken = total + len(part) <= LIMIT
+    if taken:
+        waiting, total = waiting + part, total + len(part)
+    if total <= LIMIT:
+        line(name, 0 if taken else 7, total, 0, octets(blocks(value, waiting + padding(total))))
+    else:
+        line(name, 7, total, 7, octets(bytes(16)))
 
 
 def cases():
@@ -72,6 +85,11 @@ def cases():
     opened('13 four bytes after the headers', 7, 7, 6, text=b'')
     hashed('14 hash of 8,191 zero bytes', bytes(8191))
     hashed('14 hash of 8,192 zero bytes', bytes(8192))
+    hashed('W-207 hash of 8,193 zero bytes', bytes(8193))
+    for at in (0, 1, 15, 16, 17):
+        hashed(f'W-207 hash of 40 bytes, cut at {at}', b''.join(frames)[:40])
+    for total, size in ((LIMIT, 0), (LIMIT, 1), (LIMIT - 2, 3), (LIMIT - 2, 2), (LIMIT + 1, 0)):
+        near(total, bytes.fromhex('112233')[:size])
 
 
 def main():

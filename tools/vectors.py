@@ -57,10 +57,16 @@ def blocks(value, text):
     return value
 
 
+def padding(size):
+    """Zigbee Annex B.6, after so many bytes."""
+    if size < 8192:
+        return b'\x80' + bytes((13 - size) % 16) + (8 * size).to_bytes(2, 'big')
+    return b'\x80' + bytes((9 - size) % 16) + (8 * size).to_bytes(4, 'big') + bytes(2)
+
+
 def mmo(text, initial=b''):
-    """Zigbee Annex B.6, for fewer than 8,192 bytes."""
-    padding = b'\x80' + bytes((13 - len(text)) % 16) + (8 * len(text)).to_bytes(2, 'big')
-    return blocks((initial + bytes(16))[:16], text + padding)
+    """Zigbee Annex B.6."""
+    return blocks((initial + bytes(16))[:16], text + padding(len(text)))
 
 
 def keyed(key, text):
@@ -106,22 +112,20 @@ def ccm_vector(name, key, nonce, data, text, length, document):
     vector(CCM, name, line, (KEY, key), (NONCE, nonce), (ASSOCIATED, bytes([len(data)])), (DATA, data + text), (TAG, bytes([length])))
 
 
-def digest_line(taken, compute, document=None):
-    return f'0 {printed(compute(), document).hex()}' if taken else f'7 {bytes(16).hex()}'
+def digest_line(value, document=None):
+    return f'0 {printed(value, document).hex()}'
 
 
 def hash_vector(name, text, document=None):
-    vector(HASH, name, digest_line(len(text) < 8192, lambda: mmo(text), document), (DATA, text))
+    vector(HASH, name, digest_line(mmo(text), document), (DATA, text))
 
 
 def hash_from_vector(name, initial, text):
-    line = digest_line(len(text) < 8192, lambda: mmo(text, initial))
-    vector(HASH_FROM, name, line, (KEY, initial), (DATA, text))
+    vector(HASH_FROM, name, digest_line(mmo(text, initial)), (KEY, initial), (DATA, text))
 
 
 def keyed_vector(name, key, text, document=None):
-    taken = len(text) <= 8175 and len(key) <= 8191
-    vector(KEYED, name, digest_line(taken, lambda: keyed(key, text), document), (KEY, key), (DATA, text))
+    vector(KEYED, name, digest_line(keyed(key, text), document), (KEY, key), (DATA, text))
 
 
 def aes_vectors():

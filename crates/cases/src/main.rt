@@ -1,4 +1,4 @@
-// Document 01's cases, run through the public functions: a line each, compared with `stdout`. P4's paddings are seen by the hashes of
+// Document 01's cases and those of W-207, run through the public functions: a line each, compared with `stdout`. P4's paddings are seen by the hashes of
 // messages of those lengths. `stdin` holds the frames one after the other, all of 27 bytes but the last: those of a logger with address
 // 0x0011223344556677 under the key 0x40 to 0x4F. tools/cases.py made both files, over OpenSSL's AES and CCM.
 use aib::PairRow;
@@ -8,6 +8,8 @@ use control::Control;
 use control::KeyIdentifier;
 use libc::STDIN_FILENO;
 use libc::STDOUT_FILENO;
+use mmo::Digest;
+use mmo::Hashing;
 use nib::CounterRow;
 use nib::NetworkKey;
 use nib::NetworkKeys;
@@ -240,14 +242,74 @@ fn openings(frames: [u8; ALL]) {
     );
 }
 
-fn hashed(name: &[u8], message: &[u8]) {
-    let digest = primitives::hash(message);
+fn digested(digest: Digest) {
     let outcome = digest.outcome;
     let value = digest.value;
-    text(name);
     number(answer::outcome_number(outcome) as u64);
     octets(&value);
     text(b"\n");
+}
+
+fn hashed(name: &[u8], message: &[u8]) {
+    text(name);
+    digested(primitives::hash(message));
+}
+
+// The first n bytes, and those after them.
+fn front(s: &[u8], n: usize) -> &[u8] {
+    if n <= s.len() { &s[..n] } else { s }
+}
+
+fn rest(s: &[u8], n: usize) -> &[u8] {
+    if n <= s.len() { &s[n..] } else { &s[..0] }
+}
+
+// A message in two parts.
+fn cut(message: &[u8], at: usize) {
+    text(b"W-207 hash of 40 bytes, cut at");
+    number(at as u64);
+    text(b":");
+    let first = mmo::hash_add(mmo::hash_start(), front(message, at));
+    let second = mmo::hash_add(first.state, rest(message, at));
+    digested(mmo::hash_finish(second.state));
+}
+
+fn cuts(message: &[u8]) {
+    cut(message, 0);
+    cut(message, 1);
+    cut(message, 15);
+    cut(message, 16);
+    cut(message, 17);
+}
+
+// A state after so many bytes, which nobody hashed, and a part more: the answer, the total after it, and the value.
+fn near(total: u32, part: &[u8]) {
+    text(b"W-207 after");
+    number(wide(total));
+    text(b" bytes");
+    number(part.len() as u64);
+    text(b" more:");
+    let added = mmo::hash_add(
+        Hashing {
+            value: [1u8; 16],
+            tail: [2u8; 16],
+            total,
+        },
+        part,
+    );
+    let outcome = added.outcome;
+    let state = added.state;
+    number(answer::outcome_number(outcome) as u64);
+    number(wide(state.total));
+    digested(mmo::hash_finish(state));
+}
+
+fn limits(part: &[u8]) {
+    near(536870911, front(part, 0));
+    near(536870911, front(part, 1));
+    near(536870909, front(part, 3));
+    near(536870909, front(part, 2));
+    near(536870912, front(part, 0));
 }
 
 fn main() {
@@ -259,7 +321,10 @@ fn main() {
     turns(frames);
     outgoing();
     openings(frames);
-    let long = [0u8; 8192];
+    let long = [0u8; 8193];
     hashed(b"14 hash of 8,191 zero bytes:", &long[..8191]);
-    hashed(b"14 hash of 8,192 zero bytes:", &long);
+    hashed(b"14 hash of 8,192 zero bytes:", &long[..8192]);
+    hashed(b"W-207 hash of 8,193 zero bytes:", &long);
+    cuts(front(&frames, 40));
+    limits(b"\x11\x22\x33");
 }
