@@ -127,11 +127,11 @@ def of_secure_aps(case, line):
 
 
 def of_hash(case, line):
-    """The value where the Rust's padding goes wrong is left open: an independent hash is held against it in compare/peers."""
+    """The value where the Rust's padding goes wrong, or it has none, is left open: compare/peers and compare/firmware hold an independent hash against it."""
     size = len(case.first if case.call == 'hash' else case.second)
-    if 8192 <= size < 65536:
-        return Found('H4', Line('7', '0', '0', '-', '-', '00' * 16), 0)
-    if size % 16 in (14, 15) and size < 8192:
+    if size >= 8192:
+        return Found('H4' if size < 65536 else 'H5', Line('0', '0', '0', '-', '-', None), 0)
+    if size % 16 in (14, 15):
         return Found('H1 to H3', Line('0', '0', '0', '-', '-', None), 0)
     return same(line)
 
@@ -139,7 +139,7 @@ def of_hash(case, line):
 def of_keyed_hash(case, line):
     key, text = len(case.first), len(case.second)
     if key >= 8192 or text >= 8176:
-        return Found('H10, H11', Line('7', '0', '0', '-', '-', '00' * 16), 0)
+        return Found('H10, H11', Line('0', '0', '0', '-', '-', None), 0)
     if key < 16:
         return Found('H6, H7', Line('0', '0', '0', '-', '-', None), 0)
     if key > 16 and key % 16 in (14, 15) or text % 16 in (14, 15):

@@ -28,16 +28,16 @@ def of_primitives():
     yield 'H1', Case('hash', first=bytes(14)), '0', '0'
     yield 'H2', Case('hash', first=bytes(15)), 'panic', '0'
     yield 'H3', Case('hash', first=bytes(8191)), 'panic', '0'
-    yield 'H4', Case('hash', first=bytes(8192)), '0', '7'
-    yield 'H5', Case('hash', first=bytes(65536)), '7', '7'
+    yield 'H4', Case('hash', first=bytes(8192)), '0', '0'
+    yield 'H5', Case('hash', first=bytes(65536)), '7', '0'
     yield 'H6', Case('keyed_hash'), '0', '0'
     yield 'H7', Case('keyed_hash', first=bytes(15)), 'panic', '0'
     yield 'H8', Case('keyed_hash', first=bytes(30)), '0', '0'
     yield 'H8', Case('keyed_hash', first=bytes(31)), 'panic', '0'
     yield 'H9', Case('keyed_hash', first=bytes(16), second=bytes(14)), '0', '0'
     yield 'H9', Case('keyed_hash', first=bytes(16), second=bytes(15)), 'panic', '0'
-    yield 'H10', Case('keyed_hash', first=bytes(8192)), '0', '7'
-    yield 'H11', Case('keyed_hash', first=bytes(16), second=bytes(8176)), '0', '7'
+    yield 'H10', Case('keyed_hash', first=bytes(8192)), '0', '0'
+    yield 'H11', Case('keyed_hash', first=bytes(16), second=bytes(8176)), '0', '0'
 
 
 def of_headers():

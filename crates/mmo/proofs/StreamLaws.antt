@@ -4,7 +4,7 @@ use mathlib.Core.Bool.{Bool, true, false, cond}
 use mathlib.Core.List.{List, [], _∷_, _++_, append-assoc, append-nil, flatten}
 use Prim.Native.Nat.{ℕ, _+_, _*_, _/_, _%_, _<_, _≤_}
 use native.Mathlib.Omega.{arith}
-use borrow.Author.Tests.{le-leb}
+use borrow.Author.Tests.{le-leb, leb-true}
 use lib.Dec.{leb}
 use lib.ListN.{length, take, drop, length-append, length-drop}
 use lib.Seq.{length-take-le, take-at, take-add, drop-drop, take-append-le, drop-append-le}
@@ -14,7 +14,7 @@ use Rattle.answer.specs.Numbers.{whenDone}
 use Rattle.laws.specs.Blocks.{blocks}
 use Rattle.mmo.specs.declared.stream.Hashing.{Hashing}
 use Rattle.mmo.specs.Hash.{padding, steps, hashFrom, hash, zeroBlock, filled}
-use Rattle.mmo.specs.Stream.{limit, hashing, started, waiting, whole, added, finished, left, adds}
+use Rattle.mmo.specs.Stream.{limit, hashing, started, waiting, whole, added, finished, left, adds, taken}
 use Rattle.mmo.proofs.HashLaws.{blocks-append, steps-nil, steps-append, steps-parts}
 use Rattle.mmo.proofs.AddLaws.{filled-short}
 
@@ -66,10 +66,10 @@ finish-after : (h m : List ℕ) → finished (after h m) ≡ hashFrom h m
 unfolding finished hashFrom
 finish-after h m = rw (waits h m) (steps-parts h m (padding (length m)) (length m / 16) (whole m) refl (omega arith))
 
--- the octets that are taken, of parts that come after n octets: a part past the limit is refused, and a shorter one may follow
-pub taken : ℕ → List (List ℕ) → List ℕ
-taken n [] = []
-taken n (p ∷ ps) = cond (leb (n + length p) limit) (p ++ taken (n + length p) ps) (taken n ps)
+-- within the limit a call does its work
+pub is-done : (n : ℕ) → n ≤ limit → hashing n ≡ Done
+unfolding hashing
+is-done n l = rw (le-leb n limit l)
 
 left-done : (s : Hashing) (p : List ℕ) → leb (s .total + length p) limit ≡ true → left s p ≡ added s p
 unfolding left hashing
@@ -114,6 +114,23 @@ pub any-cutting-zero : (parts : List (List ℕ)) → length (flatten parts) ≤ 
 unfolding hash
 any-cutting-zero parts l = any-cutting zeroBlock parts l
 
+-- a state that the calls made is never past the limit: it finishes
+within : (n : ℕ) (parts : List (List ℕ)) → n ≤ limit → n + length (taken n parts) ≤ limit
+unfolding taken
+within n [] l = omega arith
+within n (p ∷ ps) l = decide (leb (n + length p) limit) refl (λ u. within (n + length p) ps u) (within n ps l)
+  where
+    decide : (b : Bool) → leb (n + length p) limit ≡ b
+        → (n + length p ≤ limit → n + length p + length (taken (n + length p) ps) ≤ limit) → n + length (taken n ps) ≤ limit
+        → n + length (cond b (p ++ taken (n + length p) ps) (taken n ps)) ≤ limit
+    decide true e done refused = let u = done (leb-true (n + length p) limit e) in simp length-append (omega arith)
+    decide false e done refused = refused
+
+pub finishes : (h : List ℕ) (parts : List (List ℕ)) → hashing ((adds (started h) parts) .total) ≡ Done
+finishes h parts =
+    let l = within 0 parts (omega arith) in
+    rw (start-after h, comes h [] parts) (is-done (length (taken 0 parts)) (omega arith))
+
 -- one part, and two
 pub one-part : (h m : List ℕ) → finished (added (started h) m) ≡ hashFrom h m
 one-part h m = rw (start-after h, add-after h [] m) (finish-after h m)
@@ -121,21 +138,18 @@ one-part h m = rw (start-after h, add-after h [] m) (finish-after h m)
 pub two-parts : (h a b : List ℕ) → finished (added (added (started h) a) b) ≡ hashFrom h (a ++ b)
 two-parts h a b = rw (start-after h, add-after h [] a, add-after h a b) (finish-after h (a ++ b))
 
+-- totals
+pub started-total : (h : List ℕ) → (started h) .total ≡ 0
+unfolding started
+started-total h = refl
+
 pub added-total : (s : Hashing) (p : List ℕ) → (added s p) .total ≡ s .total + length p
 unfolding added
 added-total s p = refl
 
--- within the limit a call does its work
-pub is-done : (n : ℕ) → n ≤ limit → hashing n ≡ Done
-unfolding hashing
-is-done n l = rw (le-leb n limit l)
-
+-- a call within the limit
 pub add-done : (s t : Hashing) (p : List ℕ) (o : Outcome) → s .total + length p ≤ limit → o ≡ hashing (s .total + length p) → t ≡ whenDone o (added s p) s → t ≡ added s p
 add-done s t p o l e q = q ∙ ap (λ (r : Outcome). whenDone r (added s p) s) (e ∙ is-done (s .total + length p) l)
 
 pub finish-done : (s : Hashing) (v : List ℕ) (o : Outcome) → s .total ≤ limit → o ≡ hashing (s .total) → v ≡ whenDone o (finished s) zeroBlock → v ≡ finished s
 finish-done s v o l e q = q ∙ ap (λ (r : Outcome). whenDone r (finished s) zeroBlock) (e ∙ is-done (s .total) l)
-
-pub started-total : (h : List ℕ) → (started h) .total ≡ 0
-unfolding started
-started-total h = refl

@@ -53,3 +53,8 @@ left s part = whenDone (hashing (s .total + length part)) (added s part) s
 unfoldable pub adds : Hashing → List (List ℕ) → Hashing
 adds s [] = s
 adds s (part ∷ parts) = adds (left s part) parts
+
+-- the octets that are taken of parts that come after n octets: a part past the limit is refused, and a shorter one may follow
+unfoldable pub taken : ℕ → List (List ℕ) → List ℕ
+taken n [] = []
+taken n (part ∷ parts) = cond (leb (n + length part) limit) (part ++ taken (n + length part) parts) (taken n parts)

@@ -43,9 +43,10 @@ pub struct Digest {
 pub fn hash_start() -> Hashing
     ensures { λ r. ⌜ r ≡ started zeroBlock ⌝ }
 {
+    let zero = [0u8; 16];
     Hashing {
-        value: [0u8; 16],
-        tail: [0u8; 16],
+        value: zero,
+        tail: zero,
         total: 0,
     }
 }
