@@ -1,4 +1,4 @@
--- Case 15 of document 01, computed on the definitions. Assumes nothing.
+-- Case 15 of document 01 and a bad field, computed on the definitions. Assumes nothing.
 use mathlib.Core.Path.{_≡_, refl}
 use mathlib.Core.List.{List, [], _∷_}
 use Prim.Native.Nat.{ℕ}
@@ -11,6 +11,8 @@ use Rattle.nib.specs.Keys.{keyFound}
 use Rattle.claims.specs.Claims.{nwkWho}
 use Rattle.nwk.specs.OpenNwk.{openNwk, nwkPlaced}
 use Rattle.fields.specs.Fields.{fieldAt}
+use Rattle.reader.specs.declared.reading.Event.the-variants.{Bad}
+use Rattle.reader.specs.declared.reading.Fault.the-variants.{UnknownTag}
 use Rattle.reader.specs.Reading.{Printed, line, started, activeField, frameField, acted, stepped, printed, linesFrom, lines}
 
 abbrev case-15 : List ℕ
@@ -28,3 +30,11 @@ says k n start len = line (record { frame = k; told = record { number = n; start
 pub prints-case-15 : lines case-15 ≡ says 1 1 8 1 ∷ says 2 2 0 0 ∷ says 3 40 0 0 ∷ []
 unfolding lines linesFrom printed stepped fieldAt acted activeField frameField started field value bit find auxiliaryAt hasSender hasNumber identifierOf nwkOf nwkLength nwkFixed keyFound nwkWho openNwk nwkPlaced
 prints-case-15 = refl
+
+-- an active number, and then an unknown tag, 0x09: the second field, which begins at byte 4
+abbrev unknown-tag : List ℕ
+unknown-tag = 0x03 ∷ 0x01 ∷ 0x00 ∷ 0x07 ∷ 0x09 ∷ 0x00 ∷ 0x00 ∷ []
+
+pub tells-unknown-tag : (stepped ((stepped started unknown-tag) .reader) unknown-tag) .event ≡ Bad (record { field = 2; at = 4; fault = UnknownTag })
+unfolding stepped fieldAt acted activeField started field value
+tells-unknown-tag = refl
