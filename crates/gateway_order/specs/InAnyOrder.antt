@@ -1,4 +1,4 @@
--- DEMAND 3 OF THE CODE. Assumes nothing.
+-- DEMAND 3 OF THE CODE: `code-in-any-order`. Assumes nothing.
 use mathlib.Core.Path.{_≡_, refl, sym, ap, _∙_}
 use mathlib.Core.List.{List, [], _∷_, List·Memᴰ as Mem}
 use mathlib.Core.Option.{some}
@@ -16,7 +16,7 @@ use Rattle.order.specs.Nwk as nwk
 use Rattle.gateway_order.specs.Calls.{Call, called, Calls, none, then}
 
 -- a call leaves what the definition says
-promised-is : (g : nwk.Gateway) (b : List ℕ) (c : Call g b) → opened (c .result) (c .exit .1 .0 .now) (c .exit .1 .1 .1 .0 .now) ≡ openNwk (g .nwk) (g .rows) (g .used) b
+promised-is : (g : nwk.Gateway) (b : List ℕ) (c : Call g b) → opened (c .result) (c .last .1 .0) (c .last .1 .1 .1 .0) ≡ openNwk (g .nwk) (g .rows) (g .used) b
 promised-is g b c = c .promised ∙ (λ i. openNwk (c .nwk i) (c .rows i) (c .used i) (c .frame i))
 
 called-is : (d : nwk.NwkDesk) (i : ℕ) (c : Call (d .state) (d .buffer i)) → called d i c ≡ openAt nwk.answer nwk.after leaves says d i
@@ -52,3 +52,24 @@ pub code-in-any-order : (d e e′ : nwk.NwkDesk) (p q : List ℕ)
     -- number is the same
     → nwk.Alike e e′
 code-in-any-order d e e′ p q member free re first second = rw (calls-are first, calls-are second) (nwk-in-any-order d p q member free re)
+
+-- There are such calls, from every desk for every list: those that return and leave what the definition says.
+call-of : (g : nwk.Gateway) (b : List ℕ) → Call g b
+call-of g b =
+    let o = openNwk (g .nwk) (g .rows) (g .used) b in
+    record {
+      lifetimes = ([], ([], tt));
+      arguments = (g .nwk, (record { ptr = (0, 0); name = 0; now = g .rows }, (g .used, (record { ptr = (0, 0); name = 1; now = b }, tt))));
+      result = record { answer = o .answer; used = o .used; active = o .active };
+      last = (tt, (o .rows, (tt, (o .frame, tt))));
+      nwk = refl;
+      rows = refl;
+      used = refl;
+      frame = refl;
+      promised = refl;
+    }
+
+pub calls-exist : (d : nwk.NwkDesk) (p : List ℕ) → Calls d p (nwk.opened d p)
+unfolding openAll openAt call-of
+calls-exist d [] = none
+calls-exist d (i ∷ p) = then i p (call-of (d .state) (d .buffer i)) (calls-exist (openAt nwk.answer nwk.after leaves says d i) p)

@@ -57,9 +57,9 @@ unfolding reaction
 reacts b (Told a) k e held = absurd (Option·none-ne-some k e)
 reacts b (Claims c) k e held = rising c held b
 
-good : (g : Gateway) (b : List ℕ) → opens (answer g b) ≡ true → Good g
+opens-good : (g : Gateway) (b : List ℕ) → opens (answer g b) ≡ true → Good g
 unfolding openAps
-good g b = at (apsUnfit (g .aps) (g .pairs)) refl
+opens-good g b = at (apsUnfit (g .aps) (g .pairs)) refl
   where
     at : (t : Bool) → apsUnfit (g .aps) (g .pairs) ≡ t
         → (let o = cond t (aps-unchanged (g .pairs) (refused Unsupported b)) (apsPlaced (g .pairs) b (apsWho b)) in opens (record { answer = o .answer; frame = o .frame }) ≡ true)
@@ -129,7 +129,7 @@ pub not-again : (g : Gateway) (frame : List ℕ) (between : List Step) (again : 
     Stale (incoming (heldPair later (c′ .sender))) (c′ .counter) PairCounterRepeated PairCounterBehind again (answer later again))
 unfolding machine
 not-again g frame between again c c′ first second same low done =
-    let good = good g frame done in
+    let good = opens-good g frame done in
     let held : AtLeast (λ (p : Pair). p .incoming) opens (c .counter) (heldPair (after g frame) (c .sender)) =
     rw (ap counterOf first) at (taken-held (λ p. p .incoming) opens machine (λ b. counterOf (apsWho b)) (λ b. reacts b (apsWho b)) g good frame (c .sender) (ap senderOf first) done) in
     let now = final-keeps afterStep (Holds (c .sender) (c .counter)) (keeps (c .sender) (c .counter)) (after g frame) between

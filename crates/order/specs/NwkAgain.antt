@@ -46,9 +46,9 @@ module _ (keys : NetworkKeys) (b : List ℕ) where
   reacts (Claims c) k e held = rising keys c held b
 
 -- a state in which a frame opens is one that is taken
-good : (g : Gateway) (b : List ℕ) → opens (answer g b) ≡ true → (Good (g .nwk .keys) (length (g .rows)) g) × (g .nwk .keys .used ≤ 2)
+opens-good : (g : Gateway) (b : List ℕ) → opens (answer g b) ≡ true → (Good (g .nwk .keys) (length (g .rows)) g) × (g .nwk .keys .used ≤ 2)
 unfolding openNwk
-good g b = at (nwkUnfit (g .nwk) (g .rows) (g .used)) refl
+opens-good g b = at (nwkUnfit (g .nwk) (g .rows) (g .used)) refl
   where
     at : (t : Bool) → nwkUnfit (g .nwk) (g .rows) (g .used) ≡ t
         → (let o = cond t (unchanged (g .nwk) (g .rows) (g .used) (refused Unsupported b)) (nwkPlaced (g .nwk) (g .rows) (g .used) b (nwkWho (g .nwk .keys) b)) in
@@ -97,7 +97,7 @@ unfolding machine
 not-again d frame between again c c′ first second same low done =
     let keys = d .gateway .nwk .keys in
     let lent = length (d .gateway .rows) in
-    let t = good (d .gateway) frame done in
+    let t = opens-good (d .gateway) frame done in
     let k = claimedPair c in
     let held : AtLeast (λ (n : ℕ). n) opens (c .counter) (heldCounter (after (d .gateway) frame) k) =
     rw (ap counterOf first) at (taken-held (λ n. n) opens (machine keys lent (t .1)) (λ b. counterOf (nwkWho keys b)) (λ b. reacts keys b (nwkWho keys b)) (d .gateway) (t .0) frame k (ap pairOf first) done) in
