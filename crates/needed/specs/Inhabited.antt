@@ -3,16 +3,17 @@
 use mathlib.Core.Path.{_≡_, refl, ap, _∙_}
 use mathlib.Core.Bool.{true}
 use mathlib.Core.List.{List, [], _∷_, List·Memᴰ·head as here}
-use mathlib.Core.Option.{none, some}
+use mathlib.Core.Option.{Option·some-injective}
 use Prim.Native.Nat.{ℕ, _≤_}
 use native.Mathlib.Nat.{le-refl}
 use native.Mathlib.Omega.{arith}
 use lib.ListN.{replicate}
 use Rattle.laws.specs.Numbers.{field, value, bit}
 use Rattle.answer.specs.declared.Answer.the-variants.{Done}
-use Rattle.answer.specs.declared.Refusal.the-variants.{CounterRepeated, CounterBehind}
+use Rattle.answer.specs.declared.Refusal.the-variants.{CounterRepeated, CounterBehind, PairCounterRepeated, PairCounterBehind}
 use Rattle.cells.specs.Lists.{any}
-use Rattle.cells.specs.Rows.{find, settle, newKeys}
+use Rattle.cells.specs.Machine.{final}
+use Rattle.cells.specs.Rows.{find, hasRow, room, settle, newKeys}
 use Rattle.control.specs.Control.{hasSender, hasNumber, identifierOf}
 use Rattle.frame.specs.Auxiliary.{auxiliaryAt}
 use Rattle.frame.specs.declared.auxiliary.KeyUsed.the-variants as used
@@ -22,13 +23,15 @@ use Rattle.nib.specs.declared.counters.CounterRow.{CounterRow}
 use Rattle.nib.specs.Counters.{empty}
 use Rattle.nib.specs.Keys.{keyFound}
 use Rattle.aib.specs.declared.pairs.Pairs.{Pairs}
-use Rattle.aib.specs.Pairs.{newPair, newRow}
+use Rattle.aib.specs.Pairs.{Pair, newPair, newRow, trustCenterLinkKey}
 use Rattle.claims.specs.declared.Claim.{Claim}
 use Rattle.claims.specs.declared.Who.the-variants.{Claims}
 use Rattle.claims.specs.Claims.{nwkWho, apsWho}
 use Rattle.nwk.specs.declared.state.Nwk.{Nwk}
 use Rattle.nwk.specs.OpenNwk.{nwkPlaced, openNwk}
-use Rattle.aps.specs.declared.state.Aps.{Aps}
+use Rattle.nwk.proofs.RoundNwk as RoundNwk
+use Rattle.aps.specs.OpenAps.{incoming, apsPlaced, openAps}
+use Rattle.aps.proofs.RoundAps as RoundAps
 use Rattle.order.specs.AnyOrder.{nwk-in-any-order, aps-in-any-order}
 use Rattle.order.specs.Cases.{NwkHeard, NwkOpens, ApsHeard, NwkSends}
 use Rattle.order.specs.NotAgain.{nwk-not-again, aps-not-again}
@@ -36,17 +39,18 @@ use Rattle.order.specs.Stale.{Stale}
 use Rattle.order.specs.Nwk as nwk
 use Rattle.order.specs.Aps as aps
 use Rattle.order.specs.NwkSteps as nwk-steps
+use Rattle.order.specs.ApsSteps as aps-steps
 use Rattle.needed.specs.TwoFrames.{forth, back}
 use Rattle.needed.specs.OnAir.{key, sender, claimUnder, frameUnder, underZero, underTwo, underNine, zero-vouches, nine-vouches, claims-under, opens-under, two-claims, three-claims, two-opens}
 use Rattle.needed.specs.Desks as nwk-desks
-use Rattle.needed.specs.ApsOnAir.{one, one-claims, other-claims}
+use Rattle.needed.specs.ApsOnAir.{one, fromOne, claimFrom, one-claims, other-claims, one-opens}
 use Rattle.needed.specs.ApsDesks as aps-desks
 
 -- ---- states
 
 -- active, and a key of this number
 abbrev state : ℕ → ℕ → Nwk
-state active n = record { level = 5; own = 1; active = active; keys = record { rows = nwk-desks.keyRow n ∷ nwk-desks.keyRow 100 ∷ []; used = 1 } }
+state active n = record { level = 5; own = sender; active = active; keys = record { rows = nwk-desks.keyRow n ∷ nwk-desks.keyRow 100 ∷ []; used = 1 } }
 
 abbrev rows : List CounterRow
 rows = record { number = 2; sender = sender; counter = 5 } ∷ []
@@ -146,7 +150,37 @@ device = record { gateway = record { nwk = state 2 2; rows = empty ∷ []; used 
 
 pub again-example : (let later : nwk.Gateway = (nwk-steps.afterStep (nwk-steps.afterStep device (nwk-steps.opening underTwo)) nwk-steps.taking) .gateway in
     Stale (nwk.heldCounter later (nwk.claimedPair (claimUnder 2))) 5 CounterRepeated CounterBehind underTwo (nwk.answer later underTwo))
-unfolding openNwk nwkPlaced find any settle keyFound Rattle.cells.specs.Machine.final
+unfolding openNwk nwkPlaced find any settle keyFound final
 again-example =
     nwk-not-again device underTwo (nwk-steps.taking ∷ []) underTwo (claimUnder 2) (claimUnder 2) (two-claims ((state 2 2) .keys) refl) (two-claims ((state 2 2) .keys) refl) refl (le-refl 5)
     (rw (two-claims ((state 2 2) .keys) refl, two-opens ((state 2 2) .keys) refl))
+
+-- the same for APS: `fromOne`, an advance for its sender, and `fromOne` again
+abbrev gateway : aps.Gateway
+gateway = (aps-desks.start 0 aps-desks.both) .state
+
+pub aps-again-example : (let later : aps.Gateway = aps-steps.afterStep (aps-steps.afterStep gateway (aps-steps.opening fromOne)) (aps-steps.advancing one) in
+    Stale (incoming (aps.heldPair later one)) 5 PairCounterRepeated PairCounterBehind fromOne (aps.answer later fromOne))
+unfolding openAps apsPlaced find any settle final
+aps-again-example =
+    aps-not-again gateway fromOne (aps-steps.advancing one ∷ []) fromOne (claimFrom one) (claimFrom one) one-claims one-claims refl (le-refl 5) (rw (one-claims, one-opens))
+
+-- ---- the round trips: a gateway that hears what was sent
+
+pub nwk-hears : RoundNwk.Hears (state 2 2) (record { next = 6 }) (state 2 2) rows 1
+unfolding find room hasRow any
+nwk-hears = record {
+  fit = refl;
+  same-key = refl;
+  lower = λ held e. let n : 5 ≡ held = Option·some-injective 5 held e in omega arith;
+  has-room = refl;
+}
+
+pub aps-hears : RoundAps.Hears one 6 trustCenterLinkKey (record { level = 5; own = 1 }) (record { rows = newRow one 5 ∷ replicate 15 (newRow 0 0); used = 1 })
+unfolding find room hasRow any
+aps-hears = record {
+  fit = refl;
+  same-key = refl;
+  lower = λ p e. let n : 5 ≡ p .incoming = ap (λ (q : Pair). q .incoming) (Option·some-injective (newPair 5) p e) in omega arith;
+  has-room = refl;
+}
