@@ -1,3 +1,4 @@
+# shellcheck shell=sh
 # What the scripts here share; read by '.'. It sets: top, work (a folder that goes at the end), compiler (for x86-64), counting
 # (a command that runs a program and counts its instructions), running (a command that runs one), native (1 where times mean anything).
 top=$(cd "$(dirname "$0")/.." && pwd)
