@@ -1,5 +1,5 @@
 -- DEMAND 3 OF THE CODE: `code-in-any-order`. Assumes nothing.
-use mathlib.Core.Path.{_≡_, refl, sym, ap, _∙_}
+use mathlib.Core.Path.{_≡_, refl, ap, _∙_}
 use mathlib.Core.List.{List, [], _∷_, List·Memᴰ as Mem}
 use mathlib.Core.Option.{some}
 use Prim.Native.Nat.{ℕ, _+_, _≤_}
@@ -9,7 +9,7 @@ use Rattle.cells.specs.Desk.{write, openAt, openAll}
 use Rattle.cells.specs.Reorder.{Reordered}
 use Rattle.nib.specs.Counters.{capacity}
 use Rattle.nwk.specs.Leaves.{opened}
-use Rattle.nwk.specs.OpenNwk.{Opened, openNwk}
+use Rattle.nwk.specs.OpenNwk.{openNwk}
 use Rattle.order.specs.AnyOrder.{nwk-in-any-order}
 use Rattle.order.specs.Frames.{leaves, says}
 use Rattle.order.specs.Nwk as nwk

@@ -3,8 +3,4 @@ pub mod TwoFrames
 pub mod OnAir
 pub mod Desks
 pub mod Needed
-pub mod ApsOnAir
-pub mod ApsDesks
-pub mod ApsNeeded
-pub mod Reuse
 pub mod Inhabited

@@ -1,5 +1,5 @@
 -- The frames in the buffers 0 and 1, forth and back. Assumes nothing.
-use mathlib.Core.Path.{_≡_, refl}
+use mathlib.Core.Path.{_≡_}
 use mathlib.Core.Logic.{_⊎_, inl, inr}
 use mathlib.Core.List.{List, [], _∷_, List·Memᴰ as Mem, List·Memᴰ·head as here, List·Memᴰ·tail as there, List·Memᴰ·not-nil as not-nil, List·Memᴰ·cases-cons as cases-cons, List·Memᴰ·eq-of-singleton as eq-of-singleton, Sublistᴰ as Sublist, Sublistᴰ·cases-cons-cons}
 use mathlib.Core.Option.{Option, none, some}

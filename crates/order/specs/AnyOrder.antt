@@ -1,7 +1,7 @@
 -- DEMAND 3, as it is to be read. Two lists of openings start from the same desk: a gateway, and frames each in a buffer of its own. The
 -- first opens the frames in the buffers p, one after another; the second the same frames in the order q. They end alike (`Alike`, in
 -- Nwk.antt and Aps.antt). What `Reordered` says stands word by word in `cells`, specs/Reorder.antt. Every hypothesis of `nwk-in-any-order` and of
--- `aps-in-any-order` is needed: the crate `needed` refutes each theorem without it. Assumes nothing.
+-- `aps-in-any-order` is needed: the crates `needed` and `needed_aps` refute each theorem without it. Assumes nothing.
 use mathlib.Core.Path.{_≡_}
 use mathlib.Core.List.{List, List·Memᴰ as Mem}
 use Prim.Native.Nat.{ℕ, _+_, _≤_}

@@ -29,7 +29,7 @@ use Rattle.aps.specs.OpenAps.{incoming, apsJudged, unchanged as aps-unchanged, 
 use Rattle.aps.specs.SecureAps.{Secured}
 use Rattle.cells.specs.Rising.{Rising, stops, rises, AtLeast, one-kept, taken-held}
 use Rattle.cells.specs.Product.{final-keeps}
-use Rattle.order.specs.Stale.{isDone, opens, counterOf, Stale, not-above}
+use Rattle.order.specs.Stale.{opens, counterOf, Stale, not-above}
 use Rattle.order.specs.Aps.{Gateway, heldPair, answer, after}
 use Rattle.order.specs.ApsSent as sends
 use Rattle.order.specs.ApsRows.{raising-incoming, raising-length}

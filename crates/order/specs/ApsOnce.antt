@@ -4,7 +4,6 @@ use mathlib.Core.Bool.{Bool, true, false, cond}
 use mathlib.Core.List.{List}
 use mathlib.Core.Option.{Option, none, some, Option·none-ne-some}
 use Prim.Native.Nat.{ℕ, _≤_, _<_, _^_}
-use native.Mathlib.Nat.{le-refl}
 use native.Mathlib.Omega.{arith}
 use lib.Dec.{eqb}
 use lib.ListN.{length, drop, getD}
@@ -29,7 +28,7 @@ use Rattle.cells.specs.Once.{usedBy, used-once}
 use Rattle.order.specs.Aps.{Gateway}
 use Rattle.order.specs.ApsSent as aps
 use Rattle.order.specs.ApsRows.{opened-rows, opening-outgoing, raising-other, raising-own}
-use Rattle.order.specs.ApsSteps.{Step, opening, securing, advancing, secured, afterStep, outgoingIn, outgoingTo, counterUsed, controlOf, nonceUsed}
+use Rattle.order.specs.ApsSteps.{Step, opening, securing, advancing, afterStep, outgoingIn, outgoingTo, counterUsed, controlOf, nonceUsed}
 
 -- ---- one call
 

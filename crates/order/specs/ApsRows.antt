@@ -1,8 +1,8 @@
 -- What the calls of APS do to the rows: an opening leaves every outgoing counter, and a securing every incoming one. Assumes nothing.
-use mathlib.Core.Path.{_≡_, refl, ap, _∙_}
+use mathlib.Core.Path.{_≡_, refl, ap}
 use mathlib.Core.Bool.{Bool, true, false, cond, not, _&&_}
 use mathlib.Core.List.{List, [], _∷_}
-use mathlib.Core.Option.{Option, none, some, Option·none-ne-some, Option·some-injective}
+use mathlib.Core.Option.{Option, some, Option·none-ne-some, Option·some-injective}
 use Prim.Native.Nat.{ℕ, suc, _+_}
 use lib.Dec.{eqb, leb, ltb}
 use lib.ListN.{length, drop}
@@ -10,7 +10,7 @@ use lib.Seq.{take-append-seam}
 use borrow.Author.Tests.{eqb-true}
 use Rattle.cells.specs.First.{first, atFirst}
 use Rattle.cells.specs.ListLaws.{clash, either}
-use Rattle.cells.specs.Rows.{Reaction, Settled, find, put, room, settle}
+use Rattle.cells.specs.Rows.{Reaction, find, put, room, settle}
 use Rattle.aib.specs.declared.pairs.PairRow.{PairRow}
 use Rattle.aib.specs.Counters.{inUse, raised, heard}
 use Rattle.aib.specs.Pairs.{Pair, pairOf, rowOf, pairRows, verified, mayUse}

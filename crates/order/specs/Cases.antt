@@ -1,5 +1,5 @@
 -- P1 TO P10: document 01's cases that are marked P, as one list, on the definitions that the promises use. That there are frames and states as the
--- records here ask for is shown in the crate `needed`, specs/Inhabited.antt. Assumes nothing.
+-- records here ask for is shown in the crates `needed` and `needed_aps`, specs/Inhabited.antt. Assumes nothing.
 use mathlib.Core.Path.{_≡_, refl, ap, _∙_}
 use mathlib.Core.Bool.{Bool, true, false, cond}
 use mathlib.Core.List.{List, [], _∷_}

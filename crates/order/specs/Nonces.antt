@@ -1,26 +1,38 @@
 -- NO NONCE TWICE. Whatever frames a device opens and secures (done or refused) and whatever counters it takes, in any mix and for as long as
 -- the outgoing counter is not reset: no counter is used twice, so no two frames are secured under one nonce. For NWK that is said of all keys
--- together, for APS of each pair row. Two rows may hold one key, and then a nonce may come twice under it: see the crate `needed`,
+-- together, for APS of each pair row. Two rows may hold one key, and then a nonce may come twice under it: see the crate `needed_aps`,
 -- specs/Reuse.antt. Assumes nothing.
-use mathlib.Core.Path.{_≡_, ap}
+use mathlib.Core.Path.{_≡_, refl, sym, ap, _∙_}
+use mathlib.Core.Bool.{Bool}
 use mathlib.Core.List.{List, _++_}
-use Prim.Native.Nat.{ℕ, _≤_, _<_, _^_}
-use lib.ListN.{length, take, getD}
+use mathlib.Core.Option.{Option}
+use Prim.Native.Nat.{ℕ, _+_, _≤_, _<_, _^_}
+use native.Mathlib.Omega.{arith}
+use lib.ListN.{length, take, drop, getD}
 use lib.Seq.{length-take-le, getD-at}
+use Rattle.answer.specs.declared.Answer.the-variants.{Done}
 use Rattle.cells.specs.Lists.{Distinct}
+use Rattle.cells.specs.Once.{usedBy}
 use Rattle.control.specs.Control.{filled, sent}
 use Rattle.control.specs.declared.KeyIdentifier.{KeyIdentifier}
 use Rattle.control.specs.declared.KeyIdentifier.the-variants.{Network}
 use Rattle.frame.specs.Auxiliary.{auxiliaryOctets}
 use Rattle.frame.specs.Nonce.{nonceOf}
+use Rattle.header.specs.Aps.{apsLength}
+use Rattle.nib.specs.declared.outgoing.Outgoing.{Outgoing}
+use Rattle.aib.specs.declared.pairs.PairRow.{PairRow}
 use Rattle.protection.specs.Protection.{nonceAt}
 use Rattle.nwk.specs.declared.state.Nwk.{Nwk}
-use Rattle.nwk.specs.SecureNwk.{nwkHeaders}
-use Rattle.cells.specs.Once.{usedBy}
+use Rattle.nwk.specs.SecureNwk.{nwkAdded, nwkHeaders, nwkOnAir, secureNwk}
+use Rattle.nwk.specs.SecureNwk as nwk-secured
+use Rattle.aps.specs.SecureAps.{identifierFor, apsAdded, apsOnAir}
+use Rattle.aps.specs.SecureAps as aps-secured
 use Rattle.order.specs.NwkSteps as nwk
 use Rattle.order.specs.ApsSteps as aps
 use Rattle.order.specs.NwkOnce as nwk-laws
 use Rattle.order.specs.ApsOnce as aps-laws
+use Rattle.order.specs.NwkSent as nwk-sent
+use Rattle.order.specs.ApsSent as aps-sent
 use Rattle.order.specs.Aps.{Gateway}
 
 -- ---- NWK
@@ -40,17 +52,49 @@ aps-counters-once = aps-laws.counters-once
 pub aps-nonces-once : (to : ℕ) (g : Gateway) (steps : List aps.Step) → aps.outgoingTo to g < 2 ^ 32 → Distinct (usedBy (aps.nonceUsed to) aps.afterStep g steps)
 aps-nonces-once = aps-laws.nonces-once
 
--- ---- these are the nonces that the frames are sealed under (`nonceAt` in `securedOctets`, as `nwkOnAir` and `apsOnAir` call it)
+-- ---- and these are the nonces that the frames are sealed under: `nonceAt` is what `securedOctets` takes (protection, specs/Protection.antt)
 
 control-at : (identifier : KeyIdentifier) (counter own number : ℕ) (plain : List ℕ) (header : ℕ) → header ≤ length plain
     → getD (take header plain ++ auxiliaryOctets (sent identifier) counter own number) header 0 ≡ sent identifier
 unfolding auxiliaryOctets
 control-at identifier counter own number plain header whole = getD-at (take header plain) (sent identifier) _ 0 header (length-take-le header plain whole)
 
-pub nwk-nonce : (s : Nwk) (counter : ℕ) (plain : List ℕ) (header : ℕ) → header ≤ length plain
-    → nonceAt (s .own) counter header (nwkHeaders s counter plain header) ≡ nonceOf (s .own) counter 0x2D
-nwk-nonce s counter plain header whole = ap (λ (control : ℕ). nonceOf (s .own) counter (filled control 5)) (control-at Network counter (s .own) (s .active) plain header whole)
+module _ (s : Nwk) (o : Outgoing) (plain out : List ℕ) where
+  -- what was put out is the frame of `nwkOnAir`, and that is sealed under own address, counter and 0x2D
+  abbrev pub NwkSealed : List ℕ → Type 0
+  NwkSealed put = (header : ℕ) × (put ≡ nwkOnAir s (o .next) plain header ++ drop (length plain + nwkAdded) out)
+      × (nonceAt (s .own) (o .next) header (nwkHeaders s (o .next) plain header) ≡ nonceOf (s .own) (o .next) 0x2D)
 
-pub aps-nonce : (own counter : ℕ) (identifier : KeyIdentifier) (plain : List ℕ) (header : ℕ) → header ≤ length plain
-    → nonceAt own counter header (take header plain ++ auxiliaryOctets (sent identifier) counter own 0) ≡ nonceOf own counter (filled (sent identifier) 5)
-aps-nonce own counter identifier plain header whole = ap (λ (control : ℕ). nonceOf own counter (filled control 5)) (control-at identifier counter own 0 plain header whole)
+  pub nwk-sealed-under : (start len : ℕ) → (secureNwk s o plain out) .answer ≡ Done start len → NwkSealed ((secureNwk s o plain out) .out)
+  nwk-sealed-under start len = at (nwk-sent.securing s o plain out)
+    where
+      at : {x : nwk-secured.Secured} → nwk-sent.Sent s o plain out x → x .answer ≡ Done start len → NwkSealed (x .out)
+      at (nwk-sent.not-sent why) e = let z : _≡_ {A = ℕ} 0 1 = cc in absurd (omega arith)
+      at (nwk-sent.sent header whole usable) e =
+          (header, refl, ap (λ (control : ℕ). nonceOf (s .own) (o .next) (filled control 5)) (control-at Network (o .next) (s .own) (s .active) plain header whole))
+
+module _ (g : Gateway) (device : ℕ) (extended : Bool) (plain out : List ℕ) where
+  abbrev header : ℕ
+  header = apsLength (getD plain 0 0)
+
+  -- what was put out is the frame of `apsOnAir` for a row whose counter is the one for the device, and that is sealed under own address, that counter and
+  -- the control byte for its key
+  abbrev pub ApsSealed : List ℕ → Type 0
+  ApsSealed put = (row : PairRow) × (identifier : KeyIdentifier) × (row .outgoing ≡ aps.outgoingTo device g)
+      × (put ≡ apsOnAir (g .aps) row identifier plain header ++ drop (length plain + apsAdded) out)
+      × (nonceAt (g .aps .own) (row .outgoing) header (take header plain ++ auxiliaryOctets (sent identifier) (row .outgoing) (g .aps .own) 0)
+      ≡ nonceOf (g .aps .own) (row .outgoing) (aps.controlOf (identifierFor plain header)))
+
+  pub aps-sealed-under : (start len : ℕ) → (aps.secured g device extended plain out) .answer ≡ Done start len → ApsSealed ((aps.secured g device extended plain out) .out)
+  aps-sealed-under start len = at (aps-sent.securing (g .aps) (g .pairs) device extended plain out)
+    where
+      at : {x : aps-secured.Secured} → aps-sent.Sent (g .aps) (g .pairs) device extended plain out x → x .answer ≡ Done start len → ApsSealed (x .out)
+      at (aps-sent.not-sent why) e = let z : _≡_ {A = ℕ} 0 1 = cc in absurd (omega arith)
+      at (aps-sent.sent row identifier found chosen whole usable) e = (
+        row,
+        identifier,
+        sym (ap aps.outgoingIn found),
+        refl,
+        ap (λ (control : ℕ). nonceOf (g .aps .own) (row .outgoing) (filled control 5)) (control-at identifier (row .outgoing) (g .aps .own) 0 plain header whole)
+            ∙ ap (λ (k : Option KeyIdentifier). nonceOf (g .aps .own) (row .outgoing) (aps.controlOf k)) (sym chosen),
+      )

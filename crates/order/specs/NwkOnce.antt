@@ -18,7 +18,7 @@ use Rattle.frame.specs.NonceLaws.{counter-in}
 use Rattle.order.specs.Moves.{Moves, stays, rises}
 use Rattle.cells.specs.Once.{usedBy, used-once}
 use Rattle.order.specs.NwkSent as nwk
-use Rattle.order.specs.NwkSteps.{Device, Step, opening, securing, taking, secured, afterStep, counterUsed, nonceUsed}
+use Rattle.order.specs.NwkSteps.{Device, Step, opening, securing, taking, afterStep, counterUsed, nonceUsed}
 
 -- ---- one call
 

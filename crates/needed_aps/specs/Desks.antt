@@ -1,5 +1,5 @@
--- Desks with the two frames of ApsOnAir.antt, opened forth and back, and what they end with: computed. Assumes nothing.
-use mathlib.Core.Path.{_≡_, refl, sym, _∙_}
+-- Desks with the two frames of OnAir.antt, opened forth and back, and what they end with: computed. Assumes nothing.
+use mathlib.Core.Path.{_≡_, sym, _∙_}
 use mathlib.Core.Bool.{cond}
 use mathlib.Core.List.{List, [], _∷_}
 use mathlib.Core.Option.{none, some, Option·some-injective}
@@ -16,8 +16,8 @@ use Rattle.aib.specs.declared.pairs.PairRow.{PairRow}
 use Rattle.aib.specs.Pairs.{newRow}
 use Rattle.aps.specs.OpenAps.{apsPlaced, openAps}
 use Rattle.order.specs.Aps.{ApsDesk, names, opened}
 use Rattle.needed.specs.TwoFrames.{forth, back, saying, turned}
-use Rattle.needed.specs.ApsOnAir.{one, other, fromOne, fromOther, one-claims, other-claims, one-opens, other-opens, one-again}
+use Rattle.needed_aps.specs.OnAir.{one, other, fromOne, fromOther, one-claims, other-claims, one-opens, other-opens, one-again}
 
 -- ---- a gateway with so many rows in use, of other devices, and frames in the buffers 0 and 1
 

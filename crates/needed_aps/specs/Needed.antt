@@ -11,9 +11,9 @@ use Rattle.cells.specs.Lists.{any, Distinct}
 use Rattle.cells.specs.Rows.{newKeys}
 use Rattle.cells.specs.Reorder.{Reordered}
 use Rattle.order.specs.Aps.{ApsDesk, names, newSenders, opened, Alike}
 use Rattle.needed.specs.TwoFrames.{forth, back, saying, saidNumber, forth-once, back-once, none-lost, none-added}
-use Rattle.needed.specs.ApsOnAir.{one-claims}
-use Rattle.needed.specs.ApsDesks.{start, both, copies, reordered, full-forth, full-back, copy-forth, copy-back}
+use Rattle.needed_aps.specs.OnAir.{one-claims}
+use Rattle.needed_aps.specs.Desks.{start, both, copies, reordered, full-forth, full-back, copy-forth, copy-back}
 
 -- a free row for each new sender
 pub aps-needs-free-rows : ¬ ((d : ApsDesk) (p q : List ℕ)

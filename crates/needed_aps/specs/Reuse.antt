@@ -5,14 +5,12 @@
 use mathlib.Core.Path.{_≡_, refl}
 use mathlib.Core.Bool.{true}
 use mathlib.Core.List.{List, [], _∷_}
-use mathlib.Core.Option.{some}
 use Prim.Native.Nat.{ℕ}
 use lib.ListN.{replicate}
 use Rattle.answer.specs.declared.Answer.the-variants.{Done}
 use Rattle.laws.specs.Numbers.{bit}
 use Rattle.cells.specs.First.{first, atFirst}
 use Rattle.header.specs.Aps.{apsTaken, apsLength}
-use Rattle.aib.specs.declared.pairs.Pairs.{Pairs}
 use Rattle.aib.specs.Pairs.{newRow}
 use Rattle.aps.specs.SecureAps.{apsOnAir, secureAps}
 use Rattle.order.specs.Aps.{Gateway}
