@@ -1,6 +1,6 @@
 #!/usr/bin/env python3
-"""Writes crates/vectors/stdin and crates/vectors/stdout: public vectors, and what they should give; and crates/opening/stdin, the
-frame whose opening bench/opening counts.
+"""Writes crates/vectors/stdin and crates/vectors/stdout: public vectors, and what they should give; crates/opening/stdin, the
+frame whose opening bench/opening counts; and crates/firmware_hash/stdin and stdout, a file of 8,193 bytes and its hash.
 
     python3 tools/vectors.py            write the files
     python3 tools/vectors.py --check    say whether they are as this program would write them
@@ -228,7 +228,9 @@ def main():
     rfc3610_vectors()
     zigbee_vectors()
     crates = pathlib.Path(__file__).resolve().parent.parent / 'crates'
-    made = {'vectors/stdin': b''.join(fields), 'vectors/stdout': ''.join(lines).encode(), 'opening/stdin': opening_input(3, 1), 'opening/stdout': b'3\n'}
+    file = bytes(i % 256 for i in range(8193))
+    made = {'vectors/stdin': b''.join(fields), 'vectors/stdout': ''.join(lines).encode(), 'opening/stdin': opening_input(3, 1), 'opening/stdout': b'3\n',
+            'firmware_hash/stdin': file, 'firmware_hash/stdout': mmo(file).hex().encode() + b'\n'}
     if '--check' in sys.argv[1:]:
         stale = [name for name, text in made.items() if (crates / name).read_bytes() != text]
         print(f'{len(lines)} vectors computed again;', f'{", ".join(stale)} differ' if stale else 'all files are as computed')
