@@ -1,8 +1,8 @@
 -- A part more, as the code takes it: the first block of what waits and of the part, then the whole blocks of the part, then what is left. Assumes nothing.
 use mathlib.Core.Path.{_≡_, refl, sym, ap, _∙_}
 use mathlib.Core.Bool.{Bool, true, false}
-use mathlib.Core.List.{List, [], _∷_, _++_, append-assoc, append-nil}
-use Prim.Native.Nat.{ℕ, _+_, _-_, _*_, _/_, _%_, _<_, _≤_}
+use mathlib.Core.List.{List, [], _++_, append-assoc, append-nil}
+use Prim.Native.Nat.{ℕ, _+_, _-_, _%_, _<_, _≤_}
 use native.Mathlib.Omega.{arith}
 use borrow.Author.Tests.{leb-true, leb-false, le-leb, lt-leb}
 use lib.Dec.{leb}
@@ -12,7 +12,7 @@ use Rattle.laws.specs.Octets.{_⊕_}
 use Rattle.laws.specs.Blocks.{blocks}
 use Rattle.mmo.specs.Hash.{step, steps, filled}
 use Rattle.mmo.specs.Stream.{limit, whole}
-use Rattle.mmo.proofs.HashLaws.{zeros-xor, filled-whole, steps-nil, steps-turn}
+use Rattle.mmo.proofs.HashLaws.{zeros-xor, steps-nil, steps-turn}
 
 -- a sum held against a limit without adding
 pub leb-rest : (t n : ℕ) → t ≤ limit → leb n (limit - t) ≡ leb (t + n) limit

@@ -1,5 +1,5 @@
 -- `primitives::calls::hash_from` meets its contract: each return says on which side of the limit it is. Assumes nothing.
-use mathlib.Core.Path.{_≡_, ap, _∙_}
+use mathlib.Core.Path.{ap, _∙_}
 use Prim.Native.Nat.{_≤_}
 use native.Mathlib.Omega.{arith}
 use lib.ListN.{length}
