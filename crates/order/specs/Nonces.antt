@@ -37,18 +37,21 @@ use Rattle.order.specs.Aps.{Gateway}
 
 -- ---- NWK
 
+-- no two calls that were done used one counter
 pub nwk-counters-once : (d : nwk.Device) (steps : List nwk.Step) → Distinct (usedBy nwk.counterUsed nwk.afterStep d steps)
 nwk-counters-once = nwk-laws.counters-once
 
--- from a counter of 32 bits
+-- from a counter of 32 bits: no two frames were secured under one nonce
 pub nwk-nonces-once : (d : nwk.Device) (steps : List nwk.Step) → d .outgoing .next < 2 ^ 32 → Distinct (usedBy nwk.nonceUsed nwk.afterStep d steps)
 nwk-nonces-once = nwk-laws.nonces-once
 
 -- ---- APS, for the row that securing to the device `to` uses
 
+-- no two calls that were done used one counter of it
 pub aps-counters-once : (to : ℕ) (g : Gateway) (steps : List aps.Step) → Distinct (usedBy (aps.counterUsed to) aps.afterStep g steps)
 aps-counters-once = aps-laws.counters-once
 
+-- from a counter of 32 bits: no two frames to the device were secured under one nonce
 pub aps-nonces-once : (to : ℕ) (g : Gateway) (steps : List aps.Step) → aps.outgoingTo to g < 2 ^ 32 → Distinct (usedBy (aps.nonceUsed to) aps.afterStep g steps)
 aps-nonces-once = aps-laws.nonces-once
 
@@ -65,6 +68,7 @@ module _ (s : Nwk) (o : Outgoing) (plain out : List ℕ) where
   NwkSealed put = (header : ℕ) × (put ≡ nwkOnAir s (o .next) plain header ++ drop (length plain + nwkAdded) out)
       × (nonceAt (s .own) (o .next) header (nwkHeaders s (o .next) plain header) ≡ nonceOf (s .own) (o .next) 0x2D)
 
+  -- so it is wherever a securing was done
   pub nwk-sealed-under : (start len : ℕ) → (secureNwk s o plain out) .answer ≡ Done start len → NwkSealed ((secureNwk s o plain out) .out)
   nwk-sealed-under start len = at (nwk-sent.securing s o plain out)
     where
@@ -85,6 +89,7 @@ module _ (g : Gateway) (device : ℕ) (extended : Bool) (plain out : List ℕ) w
       × (nonceAt (g .aps .own) (row .outgoing) header (take header plain ++ auxiliaryOctets (sent identifier) (row .outgoing) (g .aps .own) 0)
       ≡ nonceOf (g .aps .own) (row .outgoing) (aps.controlOf (identifierFor plain header)))
 
+  -- so it is wherever a securing was done
   pub aps-sealed-under : (start len : ℕ) → (aps.secured g device extended plain out) .answer ≡ Done start len → ApsSealed ((aps.secured g device extended plain out) .out)
   aps-sealed-under start len = at (aps-sent.securing (g .aps) (g .pairs) device extended plain out)
     where
