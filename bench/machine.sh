@@ -23,8 +23,8 @@ count() {
 # a/b with three places
 ratio() { awk "BEGIN { printf \"%.3f\", $1 / $2 }"; }
 
-# Whether a is at most so many thousandths of b.
-within() { awk "BEGIN { exit !($1 <= $2 * $3) }"; }
+# Whether a is at most the share m of b.
+within() { awk "BEGIN { exit !($1 <= $2 * $3) }"; } # A M B
 
 need rt 'the Rattle kit'
 case $(uname -m) in
@@ -47,6 +47,17 @@ x86_64)
     ;;
 esac
 need "$compiler" 'a C compiler for x86-64'
+
+# Has a program proved; where it runs under an emulator, `loader` starts it as rt does.
+prove() { # CRATE
+    echo "$script: proving the program first where it has changed; that can take some minutes" >&2
+    (cd "$top" && rt check "$1" >"$work/log" 2>&1) || { tail -n 5 "$work/log" >&2; exit 1; }
+    loader=
+    if [ "$native" = 0 ]; then
+        tools=$(dirname "$(dirname "$(readlink -f "$(command -v rt)")")")/on/$(uname -m)/toolchain
+        loader="$tools/lib/ld-linux-x86-64.so.2 --library-path $tools/lib"
+    fi
+}
 
 # libpouchkettle.a, proved
 library() {
