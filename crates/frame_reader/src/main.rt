@@ -122,7 +122,7 @@ fn say_fault(fault: Fault) {
         Fault::ThirdKey => say(b"third key; there is room for two"),
         Fault::SurplusRow => say(b"65th counter row; there is room for 64"),
         Fault::CutField => say(b"cut field; the input ends within it"),
-        Fault::InputTooLong => say(b"input over 65536 bytes; none of it was read"),
+        Fault::InputTooLong => say(b"input over 65536 bytes; no field of it was taken"),
     }
 }
 

@@ -5,12 +5,13 @@
 use mathlib.Core.Path.{_≡_, refl, sym, ap, _∙_}
 use mathlib.Core.Bool.{Bool}
 use mathlib.Core.List.{List, _++_}
-use mathlib.Core.Option.{Option}
+use mathlib.Core.Option.{Option, some}
 use Prim.Native.Nat.{ℕ, _+_, _≤_, _<_, _^_}
 use native.Mathlib.Omega.{arith}
 use lib.ListN.{length, take, drop, getD}
 use lib.Seq.{length-take-le, getD-at}
 use Rattle.answer.specs.declared.Answer.the-variants.{Done}
+use Rattle.cells.specs.First.{first}
 use Rattle.cells.specs.Lists.{Distinct}
 use Rattle.cells.specs.Once.{usedBy}
 use Rattle.control.specs.Control.{filled, sent}
@@ -19,6 +20,9 @@ use Rattle.control.specs.declared.KeyIdentifier.the-variants.{Network}
 use Rattle.frame.specs.Auxiliary.{auxiliaryOctets}
 use Rattle.frame.specs.Nonce.{nonceOf}
 use Rattle.header.specs.Aps.{apsLength}
+use Rattle.header.specs.Nwk.{nwkLength}
+use Rattle.aib.specs.Counters.{inUse}
+use Rattle.aib.specs.Pairs.{mayUse}
 use Rattle.nib.specs.declared.outgoing.Outgoing.{Outgoing}
 use Rattle.aib.specs.declared.pairs.PairRow.{PairRow}
 use Rattle.protection.specs.Protection.{nonceAt}
@@ -65,8 +69,8 @@ control-at identifier counter own number plain header whole = getD-at (take head
 module _ (s : Nwk) (o : Outgoing) (plain out : List ℕ) where
   -- what was put out is the frame of `nwkOnAir`, and that is sealed under own address, counter and 0x2D
   abbrev pub NwkSealed : List ℕ → Type 0
-  NwkSealed put = (header : ℕ) × (put ≡ nwkOnAir s (o .next) plain header ++ drop (length plain + nwkAdded) out)
-      × (nonceAt (s .own) (o .next) header (nwkHeaders s (o .next) plain header) ≡ nonceOf (s .own) (o .next) 0x2D)
+  NwkSealed put = (put ≡ nwkOnAir s (o .next) plain (nwkLength plain) ++ drop (length plain + nwkAdded) out)
+      × (nonceAt (s .own) (o .next) (nwkLength plain) (nwkHeaders s (o .next) plain (nwkLength plain)) ≡ nonceOf (s .own) (o .next) 0x2D)
 
   -- so it is wherever a securing was done
   pub nwk-sealed-under : (start len : ℕ) → (secureNwk s o plain out) .answer ≡ Done start len → NwkSealed ((secureNwk s o plain out) .out)
@@ -74,17 +78,17 @@ module _ (s : Nwk) (o : Outgoing) (plain out : List ℕ) where
     where
       at : {x : nwk-secured.Secured} → nwk-sent.Sent s o plain out x → x .answer ≡ Done start len → NwkSealed (x .out)
       at (nwk-sent.not-sent why) e = let z : _≡_ {A = ℕ} 0 1 = cc in absurd (omega arith)
-      at (nwk-sent.sent header whole usable) e =
-          (header, refl, ap (λ (control : ℕ). nonceOf (s .own) (o .next) (filled control 5)) (control-at Network (o .next) (s .own) (s .active) plain header whole))
+      at (nwk-sent.sent whole usable) e =
+          (refl, ap (λ (control : ℕ). nonceOf (s .own) (o .next) (filled control 5)) (control-at Network (o .next) (s .own) (s .active) plain (nwkLength plain) whole))
 
 module _ (g : Gateway) (device : ℕ) (extended : Bool) (plain out : List ℕ) where
   abbrev header : ℕ
   header = apsLength (getD plain 0 0)
 
-  -- what was put out is the frame of `apsOnAir` for a row whose counter is the one for the device, and that is sealed under own address, that counter and
-  -- the control byte for its key
+  -- what was put out is the frame of `apsOnAir` for the row that securing to the device uses, by the key that the frame asks for, and that is sealed under
+  -- own address, that row's counter and the control byte for that key
   abbrev pub ApsSealed : List ℕ → Type 0
-  ApsSealed put = (row : PairRow) × (identifier : KeyIdentifier) × (row .outgoing ≡ aps.outgoingTo device g)
+  ApsSealed put = (row : PairRow) × (identifier : KeyIdentifier) × (first (mayUse device) (inUse (g .pairs)) ≡ some row) × (identifierFor plain header ≡ some identifier)
       × (put ≡ apsOnAir (g .aps) row identifier plain header ++ drop (length plain + apsAdded) out)
       × (nonceAt (g .aps .own) (row .outgoing) header (take header plain ++ auxiliaryOctets (sent identifier) (row .outgoing) (g .aps .own) 0)
       ≡ nonceOf (g .aps .own) (row .outgoing) (aps.controlOf (identifierFor plain header)))
@@ -98,7 +102,8 @@ module _ (g : Gateway) (device : ℕ) (extended : Bool) (plain out : List ℕ) w
       at (aps-sent.sent row identifier found chosen whole usable) e = (
         row,
         identifier,
-        sym (ap aps.outgoingIn found),
+        found,
+        chosen,
         refl,
         ap (λ (control : ℕ). nonceOf (g .aps .own) (row .outgoing) (filled control 5)) (control-at identifier (row .outgoing) (g .aps .own) 0 plain header whole)
             ∙ ap (λ (k : Option KeyIdentifier). nonceOf (g .aps .own) (row .outgoing) (aps.controlOf k)) (sym chosen),

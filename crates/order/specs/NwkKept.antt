@@ -91,4 +91,4 @@ module _ (s : Nwk) (o : Outgoing) (plain out : List ℕ) where
     where
       at : {x : Secured} → Sent s o plain out x → NwkUnsent x
       at (not-sent why) n = refl
-      at (sent header whole usable) n = absurd (n 0 _ refl)
+      at (sent whole usable) n = absurd (n 0 _ refl)

@@ -28,7 +28,7 @@ not-last o e = eqb-false (o .next) 4294967295 (not-true _ e)
 module _ {A : Type 0} (it : A) where
   secured-moves : (s : Nwk) (o : Outgoing) (plain out : List ℕ) {x : Secured} → nwk.Sent s o plain out x → Moves (o .next) (x .outgoing .next) (ifDone (x .answer) it) it
   secured-moves s o plain out (nwk.not-sent why) = stays (o .next) it
-  secured-moves s o plain out (nwk.sent header whole usable) = rises (o .next) it (not-last o usable)
+  secured-moves s o plain out (nwk.sent whole usable) = rises (o .next) it (not-last o usable)
 
 taken-moves : (o : Outgoing) → Moves (o .next) ((taken o) .outgoing .next) (ifTaken ((taken o) .outcome) ((taken o) .counter)) (o .next)
 unfolding taken

@@ -20,7 +20,7 @@ use Rattle.nwk.specs.SecureNwk.{Secured, notSecured, nwkAdded, nwkDone, nwkFram
 module _ (s : Nwk) (o : Outgoing) (plain out : List ℕ) where
   pub data Sent : Secured → Type 0 where
     not-sent : (why : Refusal) → Sent (notSecured why out o)
-    sent : (header : ℕ) → header ≤ length plain → mayUse o ≡ true → Sent (nwkDone s o plain out header)
+    sent : nwkLength plain ≤ length plain → mayUse o ≡ true → Sent (nwkDone s o plain out (nwkLength plain))
 
   pub securing : Sent (secureNwk s o plain out)
   unfolding secureNwk nwkOf
@@ -34,4 +34,4 @@ module _ (s : Nwk) (o : Outgoing) (plain out : List ℕ) where
           either Sent (leb 2 (nwkKind (nwkControl plain)) || not (bit 9 (nwkControl plain))) (not-sent _)
           (either Sent (not ((keyFound (s .keys) (s .active)) .found)) (not-sent _)
           (which Sent (not (mayUse o)) (λ t. not-sent _) (λ usable.
-          either Sent (ltb (length out) (length plain + nwkAdded)) (not-sent _) (sent (nwkLength plain) (leb-true _ _ whole) (not-not _ usable)))))
+          either Sent (ltb (length out) (length plain + nwkAdded)) (not-sent _) (sent (leb-true _ _ whole) (not-not _ usable)))))

@@ -52,7 +52,7 @@ pub extern "C" fn pouchkettle_hash_add(state: Hashing, part: &[u8]) -> ToldHashi
     }
 }
 
-// The value; 7 and zeros for a state that no call made.
+// The value; 7 and zeros for a total past the limit, which no call makes.
 #[no_mangle]
 pub extern "C" fn pouchkettle_hash_finish(state: Hashing) -> ToldDigest
     ensures { λ r. ⌜ (r .number ≡ outcomeNumber (hashing (state .total)))

@@ -44,6 +44,7 @@ withNwk r nwk = record { nwk = nwk; rows = r .rows; used = r .used; at = r .at; 
 abbrev pub withRows : Reader → List CounterRow → ℕ → Reader
 withRows r rows used = record { nwk = r .nwk; rows = rows; used = used; at = r .at; fields = r .fields; frames = r .frames }
 
+-- one more, as a number of 64 bits wraps
 abbrev pub counted : ℕ → ℕ
 counted n = (n + 1) % 2 ^ 64
 
@@ -123,12 +124,13 @@ past t to =
     let r : Reader = t .reader in
     record { event = t .event; reader = record { nwk = r .nwk; rows = r .rows; used = r .used; at = to; fields = counted (r .fields); frames = r .frames } }
 
--- a cut field is bad; input over 65,536 bytes is bad, and that is checked first
+-- a cut field is bad
 abbrev pub taken : Reader → List ℕ → FieldRead → Step
 taken r s fields.End = record { event = End; reader = r }
 taken r s fields.Cut = bad r fault.CutField
 taken r s (fields.Whole f) = past (acted r (f .tag) (take (f .to - f .from) (drop (f .from) s))) (f .to)
 
+-- input over 65,536 bytes is bad, and that is checked first
 unfoldable pub stepped : Reader → List ℕ → Step
 stepped r s = cond (ltb 65536 (length s)) (bad r fault.InputTooLong) (taken r s (fieldAt s (r .at)))
 
