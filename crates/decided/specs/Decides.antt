@@ -19,7 +19,6 @@ use denote.Triple.Entry.{Args, Res}
 use denote.Triple.Clauses.{Ended, Lasts, AtExit, atExit, Clauses}
 use Rattle.answer.specs.declared.Outcome.{Outcome}
 use Rattle.answer.specs.Numbers.{whenDone, told}
-use Rattle.mmo.specs.declared.stream.Hashing.{Hashing}
 use Rattle.nib.specs.Counters.{pair, left, heldFor, recorded, forgotten}
 use Rattle.nib.specs.CounterLaws as counters
 use Rattle.nib.specs.Sending.{took, taken}
@@ -144,9 +143,6 @@ Says T promise clauses =
 when-same : {r r′ : Outcome} (x y : List ℕ) → r ≡ r′ → whenDone r x y ≡ whenDone r′ x y
 when-same x y e = ap (λ (r : Outcome). whenDone r x y) e
 
-when-same-state : {r r′ : Outcome} (x y : Hashing) → r ≡ r′ → whenDone r x y ≡ whenDone r′ x y
-when-same-state x y e = ap (λ (r : Outcome). whenDone r x y) e
-
 cond-same : {r r′ : Bool} (x y : List ℕ) → r ≡ r′ → cond r x y ≡ cond r′ x y
 cond-same x y e = ap (λ (r : Bool). cond r x y) e
 
@@ -269,11 +265,11 @@ mmo-hash-start-from κs a z z′ ws ws′ p q = (p ∙ sym q, refl)
 
 pub mmo-hash-add-with : Decides mmo-hash-add-with′.ended mmo-hash-add-with′.Reads.Post
 unfolding Decides
-mmo-hash-add-with κs a z z′ ws ws′ p q = let e = p .0 ∙ sym (q .0) in (λ i. record { outcome = e i; state = (p .1 ∙ when-same-state _ _ e ∙ sym (q .1)) i }, refl)
+mmo-hash-add-with κs a z z′ ws ws′ p q = (λ i. record { outcome = (p .0 ∙ sym (q .0)) i; state = (p .1 ∙ sym (q .1)) i }, refl)
 
 pub mmo-hash-add : Decides mmo-hash-add′.ended mmo-hash-add′.Reads.Post
 unfolding Decides
-mmo-hash-add κs a z z′ ws ws′ p q = let e = p .0 ∙ sym (q .0) in (λ i. record { outcome = e i; state = (p .1 ∙ when-same-state _ _ e ∙ sym (q .1)) i }, refl)
+mmo-hash-add κs a z z′ ws ws′ p q = (λ i. record { outcome = (p .0 ∙ sym (q .0)) i; state = (p .1 ∙ sym (q .1)) i }, refl)
 
 pub mmo-hash-finish-with : Decides mmo-hash-finish-with′.ended mmo-hash-finish-with′.Reads.Post
 unfolding Decides

@@ -14,7 +14,7 @@ use Rattle.answer.specs.Numbers.{whenDone}
 use Rattle.laws.specs.Blocks.{blocks}
 use Rattle.mmo.specs.declared.stream.Hashing.{Hashing}
 use Rattle.mmo.specs.Hash.{padding, steps, hashFrom, hash, zeroBlock, filled}
-use Rattle.mmo.specs.Stream.{limit, hashing, started, waiting, whole, added, finished, left, adds, taken}
+use Rattle.mmo.specs.Stream.{limit, hashing, started, waiting, whole, added, finished, afterAdding, adds, taken}
 use Rattle.mmo.proofs.HashLaws.{blocks-append, steps-nil, steps-append, steps-parts}
 use Rattle.mmo.proofs.AddLaws.{filled-short}
 
@@ -71,13 +71,13 @@ pub is-done : (n : ℕ) → n ≤ limit → hashing n ≡ Done
 unfolding hashing
 is-done n l = rw (le-leb n limit l)
 
-left-done : (s : Hashing) (p : List ℕ) → leb (s .total + length p) limit ≡ true → left s p ≡ added s p
-unfolding left hashing
-left-done s p e = rw e
+adding-done : (s : Hashing) (p : List ℕ) → leb (s .total + length p) limit ≡ true → afterAdding s p ≡ added s p
+unfolding afterAdding hashing
+adding-done s p e = rw e
 
-left-refused : (s : Hashing) (p : List ℕ) → leb (s .total + length p) limit ≡ false → left s p ≡ s
-unfolding left hashing
-left-refused s p e = rw e
+adding-refused : (s : Hashing) (p : List ℕ) → leb (s .total + length p) limit ≡ false → afterAdding s p ≡ s
+unfolding afterAdding hashing
+adding-refused s p e = rw e
 
 -- after parts of any lengths the state is that after the octets that were taken
 comes : (h m : List ℕ) (parts : List (List ℕ)) → adds (after h m) parts ≡ after h (m ++ taken (length m) parts)
@@ -87,9 +87,9 @@ comes h m (p ∷ ps) = decide (leb (length m + length p) limit) refl (comes h (m
   where
     decide : (b : Bool) → leb (length m + length p) limit ≡ b
         → adds (after h (m ++ p)) ps ≡ after h ((m ++ p) ++ taken (length (m ++ p)) ps) → adds (after h m) ps ≡ after h (m ++ taken (length m) ps)
-        → adds (left (after h m) p) ps ≡ after h (m ++ cond b (p ++ taken (length m + length p) ps) (taken (length m) ps))
-    decide true e done refused = rw (left-done (after h m) p e, add-after h m p) (done ∙ rw (length-append m p, append-assoc))
-    decide false e done refused = rw (left-refused (after h m) p e) refused
+        → adds (afterAdding (after h m) p) ps ≡ after h (m ++ cond b (p ++ taken (length m + length p) ps) (taken (length m) ps))
+    decide true e done refused = rw (adding-done (after h m) p e, add-after h m p) (done ∙ rw (length-append m p, append-assoc))
+    decide false e done refused = rw (adding-refused (after h m) p e) refused
 
 -- AS IT COMES: of parts of any lengths, refused ones among them, the value is that of the octets that were taken
 pub as-it-comes : (h : List ℕ) (parts : List (List ℕ)) → finished (adds (started h) parts) ≡ hashFrom h (taken 0 parts)
@@ -148,8 +148,8 @@ unfolding added
 added-total s p = refl
 
 -- a call within the limit
-pub add-done : (s t : Hashing) (p : List ℕ) (o : Outcome) → s .total + length p ≤ limit → o ≡ hashing (s .total + length p) → t ≡ whenDone o (added s p) s → t ≡ added s p
-add-done s t p o l e q = q ∙ ap (λ (r : Outcome). whenDone r (added s p) s) (e ∙ is-done (s .total + length p) l)
+pub add-done : (s t : Hashing) (p : List ℕ) → s .total + length p ≤ limit → t ≡ afterAdding s p → t ≡ added s p
+add-done s t p l q = q ∙ adding-done s p (le-leb (s .total + length p) limit l)
 
 pub finish-done : (s : Hashing) (v : List ℕ) (o : Outcome) → s .total ≤ limit → o ≡ hashing (s .total) → v ≡ whenDone o (finished s) zeroBlock → v ≡ finished s
 finish-done s v o l e q = q ∙ ap (λ (r : Outcome). whenDone r (finished s) zeroBlock) (e ∙ is-done (s .total) l)

@@ -46,13 +46,13 @@ unfolding waiting padding steps
 finished s = steps (s .value) (blocks (waiting s ++ padding (s .total)))
 
 -- what a call leaves that adds a part: past the limit the state is as it was
-unfoldable pub left : Hashing → List ℕ → Hashing
-left s part = whenDone (hashing (s .total + length part)) (added s part) s
+unfoldable pub afterAdding : Hashing → List ℕ → Hashing
+afterAdding s part = whenDone (hashing (s .total + length part)) (added s part) s
 
 -- one part after another
 unfoldable pub adds : Hashing → List (List ℕ) → Hashing
 adds s [] = s
-adds s (part ∷ parts) = adds (left s part) parts
+adds s (part ∷ parts) = adds (afterAdding s part) parts
 
 -- the octets that are taken of parts that come after n octets: a part past the limit is refused, and a shorter one may follow
 unfoldable pub taken : ℕ → List (List ℕ) → List ℕ

@@ -7,7 +7,7 @@ ghost use lib.ListN.{length, take};
 ghost use Rattle.answer.specs.Numbers.{whenDone};
 ghost use Rattle.tables.specs.Rounds.{IsRound, IsSubstitution};
 ghost use Rattle.mmo.specs.Hash.{zeroBlock, filled};
-ghost use Rattle.mmo.specs.Stream.{limit, hashing, started, added, finished};
+ghost use Rattle.mmo.specs.Stream.{limit, hashing, started, added, finished, afterAdding};
 use crate::padding::pad;
 use crate::steps::first_block;
 use crate::steps::run;
@@ -121,7 +121,7 @@ pub fn hash_add_with(
     requires { ⌜ IsRound (now round) ⌝ }
     requires { ⌜ IsSubstitution (now substitution) ⌝ }
     ensures { λ r. ⌜ (r .outcome ≡ hashing (state .total + length (now (part .entry))))
-        × (r .state ≡ whenDone (r .outcome) (added state (now (part .entry))) state) ⌝ }
+        × (r .state ≡ afterAdding state (now (part .entry))) ⌝ }
 {
     if takes(state.total, part.len()) {
         let next = followed(state, part, round, substitution);
@@ -139,7 +139,7 @@ pub fn hash_add_with(
 // The same, with the tables named here, once a part.
 pub fn hash_add(state: Hashing, part: &[u8]) -> Added
     ensures { λ r. ⌜ (r .outcome ≡ hashing (state .total + length (now (part .entry))))
-        × (r .state ≡ whenDone (r .outcome) (added state (now (part .entry))) state) ⌝ }
+        × (r .state ≡ afterAdding state (now (part .entry))) ⌝ }
 {
     let round = tables::ROUND;
     let substitution = tables::SUBSTITUTION;

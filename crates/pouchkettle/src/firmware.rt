@@ -4,7 +4,7 @@ ghost use Prim.Native.Nat.{_+_};
 ghost use lib.ListN.{length};
 ghost use Rattle.answer.specs.Numbers.{outcomeNumber, whenDone};
 ghost use Rattle.mmo.specs.Hash.{zeroBlock, filled};
-ghost use Rattle.mmo.specs.Stream.{hashing, started, added, finished};
+ghost use Rattle.mmo.specs.Stream.{hashing, started, finished, afterAdding};
 use mmo::Hashing;
 
 // A number, and the state after a part.
@@ -41,7 +41,7 @@ pub extern "C" fn pouchkettle_hash_start_from(initial: &[u8]) -> Hashing
 #[no_mangle]
 pub extern "C" fn pouchkettle_hash_add(state: Hashing, part: &[u8]) -> ToldHashing
     ensures { λ r. ⌜ (r .number ≡ outcomeNumber (hashing (state .total + length (now (part .entry)))))
-        × (r .state ≡ whenDone (hashing (state .total + length (now (part .entry)))) (added state (now (part .entry))) state) ⌝ }
+        × (r .state ≡ afterAdding state (now (part .entry))) ⌝ }
 {
     let added = mmo::hash_add(state, part);
     let outcome = added.outcome;

@@ -1,9 +1,10 @@
 // RFC 2104, section 2: the keyed hash.
 ghost use mathlib.Core.Path.{_≡_};
-ghost use Prim.Native.Nat.{_≤_};
+ghost use Prim.Native.Nat.{_-_, _≤_};
 ghost use lib.ListN.{length, replicate};
 ghost use Rattle.laws.specs.Octets.{_⊕_};
 ghost use Rattle.tables.specs.Rounds.{IsRound, IsSubstitution};
+ghost use Rattle.mmo.specs.Stream.{limit};
 ghost use Rattle.primitives.specs.KeyedHash.{keyBlock, keyedHash};
 use crate::messages::begun;
 use crate::messages::ended;
@@ -12,7 +13,7 @@ use crate::messages::ended;
 fn key_block(key: &[u8], round: &[u8; 2048], substitution: &[u8; 256]) -> [u8; 16]
     requires { ⌜ IsRound (now round) ⌝ }
     requires { ⌜ IsSubstitution (now substitution) ⌝ }
-    requires { ⌜ length (now key) ≤ 536870911 ⌝ }
+    requires { ⌜ length (now key) ≤ limit ⌝ }
     ensures { λ r. ⌜ r ≡ keyBlock (now (key .entry)) ⌝ }
 {
     if 16 < key.len() {
@@ -35,7 +36,7 @@ fn masked(block: [u8; 16], byte: u8) -> [u8; 16]
 fn keyed_with(key: &[u8], text: &[u8], round: &[u8; 2048], substitution: &[u8; 256]) -> [u8; 16]
     requires { ⌜ IsRound (now round) ⌝ }
     requires { ⌜ IsSubstitution (now substitution) ⌝ }
-    requires { ⌜ (length (now key) ≤ 536870911) × (length (now text) ≤ 536870895) ⌝ }
+    requires { ⌜ (length (now key) ≤ limit) × (length (now text) ≤ limit - 16) ⌝ }
     ensures { λ r. ⌜ r ≡ keyedHash (now (key .entry)) (now (text .entry)) ⌝ }
 {
     let k = key_block(key, round, substitution);
@@ -47,7 +48,7 @@ fn keyed_with(key: &[u8], text: &[u8], round: &[u8; 2048], substitution: &[u8; 2
 
 // The same, with the tables named here, once a keyed hash.
 pub(crate) fn keyed_digest(key: &[u8], text: &[u8]) -> [u8; 16]
-    requires { ⌜ (length (now key) ≤ 536870911) × (length (now text) ≤ 536870895) ⌝ }
+    requires { ⌜ (length (now key) ≤ limit) × (length (now text) ≤ limit - 16) ⌝ }
     ensures { λ r. ⌜ r ≡ keyedHash (now (key .entry)) (now (text .entry)) ⌝ }
 {
     let round = tables::ROUND;

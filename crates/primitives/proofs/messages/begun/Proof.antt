@@ -20,7 +20,7 @@ returns c =
     let n : length b ≡ 16 = search needs in
     let l : s .total + length b ≤ limit = omega arith in
     let r = c .before .hash-add-with in
-    add-done s (r .result .state) b (r .result .outcome) l (r .ensures .0) (r .ensures .1) ∙ ap (λ (s : Hashing). added s b) e
+    add-done s (r .result .state) b l (r .ensures .1) ∙ ap (λ (s : Hashing). added s b) e
 
 pub begun-spec : {M : Type 1} → statement M
 begun-spec = tie.close (tie.spec (λ c κs. search needs) (λ c. search needs) (λ c κs. search needs) returns)

@@ -16,7 +16,7 @@ returns c =
     let l : a .state .total + length (a .rest .now) ≤ limit = search needs in
     let r = c .before .before .hash-add-with in
     let f = c .before .hash-finish-with in
-    let e = add-done (a .state) (r .result .state) (a .rest .now) (r .result .outcome) l (r .ensures .0) (r .ensures .1) in
+    let e = add-done (a .state) (r .result .state) (a .rest .now) l (r .ensures .1) in
     let t = ap (λ (s : Hashing). s .total) e ∙ added-total (a .state) (a .rest .now) in
     let m : r .result .state .total ≤ limit = omega arith in
     finish-done (r .result .state) (f .result .value) (f .result .outcome) m (f .ensures .0) (f .ensures .1) ∙ ap finished e
