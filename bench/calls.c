@@ -48,6 +48,13 @@ static void secure_aps(void) {
 static void forget(void) { expect(pouchkettle_forget(rows, 64, rows_used, 9).number, 0); }
 static void reset(void) { expect((int)pouchkettle_reset((struct pouchkettle_outgoing){41}).next, 41); }
 
+/* the frame's octets as a part of a firmware file, from a state in which five octets wait */
+static struct pouchkettle_hashing waiting;
+static void hash_start(void) { expect((int)pouchkettle_hash_start().total, 0); }
+static void hash_start_from(void) { expect((int)pouchkettle_hash_start_from(air, 16).total, 0); }
+static void hash_add(void) { expect(pouchkettle_hash_add(waiting, air, len).number, 0); }
+static void hash_finish(void) { expect(pouchkettle_hash_finish(waiting).number, 0); }
+
 /* the nonce and the associated data of the frame, for CCM alone */
 static uint8_t nonce[13], associated[22];
 
@@ -115,6 +122,10 @@ static const struct contender { const char *rows, *name; void (*call)(void); } c
     {"rows", "secure_aps", secure_aps},
     {"rows", "forget", forget},
     {"-", "reset", reset},
+    {"-", "hash_start", hash_start},
+    {"-", "hash_start_from", hash_start_from},
+    {"-", "hash_add", hash_add},
+    {"-", "hash_finish", hash_finish},
 #ifdef MBEDTLS
     {"-", "mbedTLS-tables-key-once", mbedtls_tables_once},
     {"-", "mbedTLS-tables-key-each-time", mbedtls_tables_each},
@@ -138,6 +149,7 @@ static void begin(size_t n, size_t used) {
     gateway_pairs = pairs_of(pairs, LOGGER), logger_pairs = pairs_of(pairs, GATEWAY);
     expect(pouchkettle_secure_nwk(logger, &outgoing, plain, plain_len, air, sizeof air).number, 0);
     expect(pouchkettle_secure_aps(aps_logger, logger_pairs, GATEWAY, true, aps_plain, aps_plain_len, aps_air, sizeof aps_air).told.number, 0);
+    waiting = pouchkettle_hash_add(pouchkettle_hash_start(), air, 5).state;
     memcpy(associated, air, 22), associated[8] |= 5;
     memcpy(nonce, air + 13, 8), memcpy(nonce + 8, air + 9, 4), nonce[12] = associated[8];
 #ifdef MBEDTLS

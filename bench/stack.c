@@ -19,6 +19,9 @@ static struct pouchkettle_told_aps told_aps;
 static struct pouchkettle_told_rows told_rows;
 static struct pouchkettle_outgoing outgoing;
 static struct pouchkettle_nwk state;
+static struct pouchkettle_hashing hashing;
+static struct pouchkettle_told_hashing told_hashing;
+static struct pouchkettle_told_digest told_digest;
 static struct pouchkettle_aps aps;
 #define FROM_HERE caller = __builtin_frame_address(0)
 
@@ -28,6 +31,11 @@ static void open_aps(void) { FROM_HERE; told_aps = pouchkettle_open_aps(aps, pai
 static void secure_aps(void) { FROM_HERE; told_aps = pouchkettle_secure_aps(aps, pairs, GATEWAY, true, plain, plain_len, buffer, sizeof buffer); number = told_aps.told.number; }
 static void forget(void) { FROM_HERE; told_rows = pouchkettle_forget(rows, 64, rows_used, 9); number = told_rows.number; }
 static void reset(void) { FROM_HERE; outgoing = pouchkettle_reset(outgoing); number = 0; }
+
+static void hash_start(void) { FROM_HERE; hashing = pouchkettle_hash_start(); number = 0; }
+static void hash_start_from(void) { FROM_HERE; hashing = pouchkettle_hash_start_from(air, 16); number = 0; }
+static void hash_add(void) { FROM_HERE; told_hashing = pouchkettle_hash_add(hashing, air, len); number = told_hashing.number; }
+static void hash_finish(void) { FROM_HERE; told_digest = pouchkettle_hash_finish(hashing); number = told_digest.number; }
 
 static void measure(const char *name, void (*call)(void)) {
     memset(stack, PAINT, sizeof stack);
@@ -56,6 +64,13 @@ static void nwk(void) {
     measure("reset", reset);
 }
 
+static void hashes(void) {
+    measure("hash_start_from", hash_start_from);
+    measure("hash_start", hash_start);
+    measure("hash_add", hash_add);
+    measure("hash_finish", hash_finish);
+}
+
 /* command: a Transport-Key command, whose key is a keyed hash; else data */
 static void aps_calls(int command) {
     aps_len = len < LONGEST ? len : LONGEST - 1;
@@ -69,6 +84,6 @@ static void aps_calls(int command) {
 
 int main(void) {
     static const size_t lengths[] = {60, 127, LONGEST};
-    for (int i = 0; i < 3; i++) len = lengths[i], nwk(), aps_calls(0), aps_calls(1);
+    for (int i = 0; i < 3; i++) len = lengths[i], nwk(), aps_calls(0), aps_calls(1), hashes();
     return 0;
 }

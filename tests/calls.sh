@@ -57,9 +57,9 @@ expect_failure() { # NAME PATTERN
 }
 
 holds() { # NAME WHY-NOT CONDITION...
-    name=$1 why=$2
+    held=$1 why=$2
     shift 2
-    if "$@"; then pass "$name"; else fail "$name" "$why"; fi
+    if "$@"; then pass "$held"; else fail "$held" "$why"; fi
 }
 
 # Runs a command as a user who is not root.

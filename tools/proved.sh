@@ -58,7 +58,7 @@ is_stale() {
         grep -q '^rt: ok' "$log" || return 0
         since=$log
     fi
-    [ -n "$(find "$top/crates.txt" "$top/crates" -newer "$since" | head -n 1)" ]
+    [ -n "$(find "$top/crates.txt" "$top/crates" -newer "$since" 2>/dev/null | head -n 1)" ]
 }
 
 check() {
@@ -72,14 +72,24 @@ build() {
     if ! mkdir -p "$top/target" 2>/dev/null || [ ! -w "$top/target" ]; then
         die "cannot write '$top/target', where proofs and program go; copy '$top' to where you can write, and call it there"
     fi
+    # one rt at a time over one target/: two undo each other's proofs
+    exec 9>>"$top/target/lock" || die "cannot write '$top/target/lock'"
+    if command -v flock >/dev/null 2>&1 && ! flock -n 9; then
+        say 'another call proves here; waiting for it'
+        flock 9 || die "cannot lock '$top/target/lock'"
+    fi
     total=$(count_crates)
     if is_stale; then
         say "proving what is new or changed of $total crates; all of them take $whole"
     fi
     # where the program alone is gone, rt must not take it for built
     [ -x "$program" ] || rm -f "$top/target/stamp/$crate"
-    check "$total" && [ -x "$program" ] && return
-    rm -f "$program"
+    if check "$total" && [ -x "$program" ]; then
+        exec 9>&-
+        return
+    fi
+    # where rt itself failed, as for a wrong RATTLE_HOME, nothing is known of the program, and it stays; it is not run
+    ! grep -q 'NOT PROVED' "$log" || rm -f "$program"
     grep '^rt: ' "$log" | grep -v ' proved (' >&2
     die "the program is not proved, so nothing was read; '$log' has all that rt said"
 }

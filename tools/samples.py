@@ -94,7 +94,7 @@ def shift():
         send('retort 1', 101 + minute, 1210 + minute)
         send('retort 2', 5 + minute, 1195)
         send('cold store', 900 + minute, 38)
-    send('retort 1', 105, 1214)                       # a relay's second copy
+    send('retort 1', 105, 1214)                       # a second copy
     send('retort 2', 6, 1195)                         # a step backwards
     forged = bytearray(frame('cold store', 905, 38))
     forged[23] ^= 4                                   # a forged reading
