@@ -1,10 +1,15 @@
--- What `record_with` and `forget_with` hand back: the answer of the call and the rows that it left, as a machine value. Assumes nothing.
+-- How the bridges lend a local array of rows; and what `settle_with` and `forget_with` hand back, the answer of the call and the rows that
+-- it left, as a machine value. Assumes nothing.
 use mathlib.Core.Path.{subst}
 use mathlib.Core.List.{List, [], _∷_}
-use mir.Syntax.{w64}
+use Prim.Native.Nat.{ℕ}
+use mir.Syntax.{named, w64}
 use mir.Val.{Val, vcons, vint, vnil, vstruct}
+use base.Fml.{Fml, GName}
 use denote.Array.{arrayVal}
 use denote.Laws.{Is}
+use denote.Ref.{RefT}
+use denote.Slice.{MutSlice, sliceVal}
 use denote.Struct.Laws as LL
 use denote.Enum.Laws as LE
 use Rattle.walks.specs.ArrayField.{array-in, vals-same}
@@ -20,6 +25,13 @@ use Rattle.nib.proofs.CounterArray as array
 use Rattle.by_value.specs.declared.RecordedWith.{RecordedWith}
 use Rattle.by_value.proofs.RecordedWith as S
 use Rattle.by_value.proofs.RecordedWith.Laws as S′
+
+-- the local array at l, lent under the name δ; and what is owned of it where it is lent by `&mut` for ν
+abbrev pub lent : ℕ → GName → List CounterRow → RefT (List CounterRow)
+lent l δ ys = record { ptr = (l, 0); name = δ; now = ys }
+
+abbrev pub Lent : ℕ → ℕ → GName → List CounterRow → Fml
+Lent l ν δ ys = MutSlice (named 0) (ν ∷ []) R.the-row .own (lent l δ ys) (sliceVal (l, 0) 64 ∷ [])
 
 abbrev pub handed : Recorded → List CounterRow → RecordedWith
 handed r zs = record { rows = zs; used = r .used; outcome = r .outcome }

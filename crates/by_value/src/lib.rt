@@ -1,26 +1,40 @@
-// The counter rows and the outgoing counter by value, for callers that lend no struct: each function lends its own copy to the
-// function of the same name in `counter_rows` or `counter_record`, and hands the copy back.
+// The counter rows and the outgoing counter by value, for callers that lend no struct. A function over rows lends its own copy to
+// the function of the same name in `counter_rows`, and hands the copy back.
 ghost use mathlib.Core.Path.{_≡_};
-ghost use Rattle.nib.specs.Counters.{pair, heldFor, recorded, forgotten};
+ghost use Rattle.nib.specs.Counters.{pair, heldFor, recorded, settled, forgotten};
 ghost use Rattle.nib.specs.Sending.{taken};
 ghost use Rattle.by_value.specs.With.{leftWith, tookWith};
 use answer::Outcome;
-use counter_record::take;
+use answer::Refusal;
 use counter_rows::forget;
 use counter_rows::held;
-use counter_rows::record;
+use counter_rows::settle;
+use nib::Change;
 use nib::CounterRow;
 use nib::Outgoing;
 use nib::Standing;
 
-// What `record` and `forget` answer, and the counter rows after it.
+// What `settle` and `forget` answer, and the counter rows after it.
 pub struct RecordedWith {
     pub rows: [CounterRow; 64],
     pub used: usize,
     pub outcome: Outcome,
 }
 
-// `record`, with 64 counter rows by value.
+// `settle`, with 64 counter rows by value.
+pub fn settle_with(rows: [CounterRow; 64], used: usize, change: Change) -> RecordedWith
+    ensures { λ r. ⌜ leftWith r ≡ settled rows used change ⌝ }
+{
+    let mut lent = rows;
+    let settled = settle(&mut lent, used, change);
+    RecordedWith {
+        rows: lent,
+        used: settled.used,
+        outcome: settled.outcome,
+    }
+}
+
+// The row of a key number and sender holds the counter now; a new row goes after the last.
 pub fn record_with(
     rows: [CounterRow; 64],
     used: usize,
@@ -30,13 +44,8 @@ pub fn record_with(
 ) -> RecordedWith
     ensures { λ r. ⌜ leftWith r ≡ recorded rows used (pair number sender) counter ⌝ }
 {
-    let mut lent = rows;
-    let recorded = record(&mut lent, used, number, sender, counter);
-    RecordedWith {
-        rows: lent,
-        used: recorded.used,
-        outcome: recorded.outcome,
-    }
+    let row = nib::recorded_row(number, sender, counter);
+    settle_with(rows, used, Change { writes: true, row })
 }
 
 // `forget`, with 64 counter rows by value.
@@ -59,22 +68,30 @@ pub fn held_with(rows: [CounterRow; 64], used: usize, number: u8, sender: u64) -
     held(&rows, used, number, sender)
 }
 
-// What `take` answers, and the outgoing counter after it.
+// What taking answers, and the outgoing counter after it.
 pub struct TakenWith {
     pub outcome: Outcome,
     pub counter: u32,
     pub outgoing: Outgoing,
 }
 
-// `take`, with the outgoing counter by value.
+// The next counter, and the record that is left. The last counter is never handed out: then the record stays as it is, and 0 is
+// handed back.
 pub fn take_with(outgoing: Outgoing) -> TakenWith
     ensures { λ r. ⌜ tookWith r ≡ taken outgoing ⌝ }
 {
-    let mut lent = outgoing;
-    let taken = take(&mut lent);
+    let old = outgoing.next;
+    if nib::usable(outgoing) {
+        let next = nib::sending(old + 1);
+        return TakenWith {
+            outcome: Outcome::Done,
+            counter: old,
+            outgoing: next,
+        };
+    }
     TakenWith {
-        outcome: taken.outcome,
-        counter: taken.counter,
-        outgoing: lent,
+        outcome: Outcome::Refused(Refusal::CounterExhausted),
+        counter: 0,
+        outgoing,
     }
 }

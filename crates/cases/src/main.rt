@@ -10,11 +10,8 @@ use libc::STDIN_FILENO;
 use libc::STDOUT_FILENO;
 use mmo::Digest;
 use mmo::Hashing;
-use nib::CounterRow;
-use nib::NetworkKey;
 use nib::NetworkKeys;
-use nib::Outgoing;
-use nwk::Nwk;
+use nib::Nwk;
 
 const LOGGER: u64 = 0x0011223344556677;
 
@@ -67,10 +64,7 @@ fn octets(s: &[u8]) {
 }
 
 fn gateway(active: u8, key_number: u8) -> Nwk {
-    let row = NetworkKey {
-        number: key_number,
-        key: LOGGER_KEY,
-    };
+    let row = nib::key_row(key_number, LOGGER_KEY);
     Nwk {
         level: 5,
         own: 0,
@@ -87,11 +81,7 @@ fn gateway(active: u8, key_number: u8) -> Nwk {
 fn opened(name: &[u8], nwk: Nwk, used: usize, held: u32, frame: &mut [u8]) {
     let keys = nwk.keys;
     let row = keys.rows[0];
-    let heard = CounterRow {
-        number: row.number,
-        sender: LOGGER,
-        counter: held,
-    };
+    let heard = nib::recorded_row(row.number, LOGGER, held);
     let after = nwk_by_value::open_with(nwk, [heard; 64], used, frame);
     let answer = after.answer;
     let rows = after.rows;
@@ -199,11 +189,11 @@ fn turns(frames: [u8; ALL]) {
 
 fn outgoing() {
     text(b"P9 reset at 0x80000000, 0x80000001:");
-    number(nib::reset(Outgoing { next: 0x80000000 }).next as u64);
-    number(nib::reset(Outgoing { next: 0x80000001 }).next as u64);
+    number(nib::reset(nib::sending(0x80000000)).next as u64);
+    number(nib::reset(nib::sending(0x80000001)).next as u64);
     let plain = [0x08, 0x02, 0x00, 0x00, 0x34, 0x12, 0x1e, 0x01, 0x54];
     let mut out = [0u8; 32];
-    let last = Outgoing { next: 4294967295 };
+    let last = nib::sending(4294967295);
     let secured = nwk_by_value::secure_with(gateway(7, 7), last, &plain, &mut out);
     let answer = secured.answer;
     let told = answer::told_of(answer);

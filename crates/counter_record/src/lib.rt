@@ -2,8 +2,7 @@
 // in it and the old one is handed back.
 ghost use mathlib.Core.Path.{_≡_};
 ghost use Rattle.nib.specs.Sending.{took, taken};
-use answer::Outcome;
-use answer::Refusal;
+use by_value::take_with;
 use nib::Outgoing;
 use nib::Taken;
 
@@ -11,16 +10,10 @@ use nib::Taken;
 pub fn take(outgoing: &mut Outgoing) -> Taken
     ensures { λ r. ⌜ took r (now (outgoing .exit)) ≡ taken (now (outgoing .entry)) ⌝ }
 {
-    let old = outgoing.next;
-    if old == 4294967295 {
-        return Taken {
-            outcome: Outcome::Refused(Refusal::CounterExhausted),
-            counter: 0,
-        };
-    }
-    outgoing.next = old + 1;
+    let taken = take_with(*outgoing);
+    *outgoing = taken.outgoing;
     Taken {
-        outcome: Outcome::Done,
-        counter: old,
+        outcome: taken.outcome,
+        counter: taken.counter,
     }
 }

@@ -1,30 +1,25 @@
--- The two functions that more than one walk of this crate calls, each by its contract: what a call of it asks, and what it says.
--- Assumes nothing.
+-- The two functions that more than one walk of this crate calls, each by its contract: what a call of it asks, and what it says. Assumes nothing.
 use Rattle.walks.specs.Walk.{ !, Atoms, Contract, Fun, GName, Given, Heap, Lft, List, Memory, RefT, Routine, SProp, Share, ShrSlice, URA, Val, [], _$_, _<_, _^_, _∵_, _≡_, _≤_, _∷_, done, emp, ensured, ent, exE, fact, fjoin, flft, frame, join, lasts, length, move, named, nothing, number, qed, says, sem, sliceVal, snd∗, take, tripleOf, vint, w64, w8, ‵, ⋆, ℕ}
 use Rattle.cells.specs.Rows.{placeOf}
-use Rattle.nib.specs.Counters.{counterRows, pair, capacity}
+use Rattle.nib.specs.Counters.{counterRows, pair}
 use Rattle.nib.specs.declared.counters.CounterRow.{CounterRow}
 use Rattle.nib.proofs.counters.CounterRow as T
-use Rattle.nib.proofs.capacity as cap
+use Rattle.nib.proofs.searched as many-of
 use Rattle.counter_rows.proofs.place_of as place
 
 module _ {M : Type 1} (𝓤 : URA M) (H : Heap 𝓤) (A : Atoms 𝓤) (mem : Memory → SProp 𝓤) (run : Routine → Fun 𝓤) where
-  abbrev pub Capacity : Contract 𝓤
-  Capacity = tripleOf 𝓤 H A cap.signature (cap.spec 𝓤 H A mem run)
+  abbrev pub Many : Contract 𝓤
+  Many = tripleOf 𝓤 H A many-of.signature (many-of.spec 𝓤 H A mem run)
 
   abbrev pub PlaceOf : Contract 𝓤
   PlaceOf = tripleOf 𝓤 H A place.signature (place.spec 𝓤 H A mem run)
 
-  -- capacity(lent)
-  module _ (W : Given 𝓤 H A) (lent : ℕ) (fits : lent < 2 ^ 64) where
-    abbrev pub to-capacity : Capacity .Ghost
-    to-capacity = ((tt, tt, tt, (lent, tt), (vint w64 lent ∷ [], tt)), tt)
+  -- searched(lent, used)
+  abbrev pub to-many : ℕ → ℕ → Many .Ghost
+  to-many lent used = ((tt, tt, tt, (lent, (used, tt)), (vint w64 lent ∷ [], (vint w64 used ∷ [], tt))), tt)
 
-    pub goes-capacity : ent 𝓤 (emp 𝓤) (Capacity .pre to-capacity)
-    goes-capacity = qed W [] ∵ nothing ! $ number ! w64 lent fits $ fjoin ! $ nothing ! $ join ! $ frame ! $ done !
-
-    pub capacity-said : (r : ℕ) → ent 𝓤 (ensured 𝓤 H A cap.ended (cap.clauses 𝓤 H A mem run) tt (lent, tt) tt r) (fact 𝓤 (r ≡ capacity lent))
-    capacity-said r = exE 𝓤 _ (λ ws. snd∗ 𝓤 (sem 𝓤 H A (lasts cap.ended tt (lent, tt) ws)) (fact 𝓤 (r ≡ capacity lent)))
+  pub asks-many : Given 𝓤 H A → (lent used : ℕ) → lent < 2 ^ 64 → used < 2 ^ 64 → ent 𝓤 (emp 𝓤) (Many .pre (to-many lent used))
+  asks-many W lent used lent-fits used-fits = qed W [] ∵ nothing ! $ number ! w64 used used-fits $ fjoin ! $ number ! w64 lent lent-fits $ fjoin ! $ nothing ! $ join ! $ frame ! $ done !
 
   -- place_of(rows, used, number, sender), the rows lent at the lifetime κ
   module _ (W : Given 𝓤 H A) (κ : Lft) (q : Share) (b o : ℕ) (γ : GName) (ys : List CounterRow) (used n s : ℕ) where

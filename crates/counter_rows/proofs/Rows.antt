@@ -24,8 +24,11 @@ ref ℓ m = tyRef ℓ m (pointee (T.the-row .written))
 abbrev pub slice : Lifetime → Mutability → Ty
 slice ℓ m = sliceTy (ref ℓ m)
 
--- a place among the rows, in bytes
-pub in-bytes : (i n : ℕ) → n * 24 < 2 ^ 63 → i < n → i * 24 < 2 ^ 64
+-- a row's size, and a place among the rows, in bytes
+abbrev pub rowBytes : ℕ
+rowBytes = 24
+
+pub in-bytes : (i n : ℕ) → n * rowBytes < 2 ^ 63 → i < n → i * rowBytes < 2 ^ 64
 in-bytes i n room within = omega arith
 
 module _ (r : CounterRow) (n s : ℕ) where

@@ -19,13 +19,13 @@ use denote.Triple.Entry.{Args, Res}
 use denote.Triple.Clauses.{Ended, Lasts, AtExit, atExit, Clauses}
 use Rattle.answer.specs.declared.Outcome.{Outcome}
 use Rattle.answer.specs.Numbers.{whenDone, told}
-use Rattle.nib.specs.Counters.{pair, left, heldFor, recorded, forgotten}
+use Rattle.nib.specs.Counters.{pair, left, heldFor, settled, forgotten}
 use Rattle.nib.specs.CounterLaws as counters
 use Rattle.nib.specs.Sending.{took, taken}
 use Rattle.nib.specs.SendingLaws as sending
 use Rattle.nwk.specs.Leaves.{opened, secured}
-use Rattle.nwk.specs.OpenNwk.{openNwk}
-use Rattle.nwk.specs.SecureNwk.{secureNwk}
+use Rattle.judging.specs.OpenNwk.{openNwk}
+use Rattle.securing.specs.SecureNwk.{secureNwk}
 use Rattle.pouchkettle.specs.Told.{toldNwk, toldRows}
 use Rattle.decided.specs.KeyWords.{Words, Small, same-word, same-words, same-state}
 use Rattle.answer.proofs.number_of as answer-number-of′
@@ -80,15 +80,25 @@ use Rattle.header.proofs.application.ApsControl.command as header-command′
 use Rattle.header.proofs.application.ApsControl.secured as header-secured′
 use Rattle.header.proofs.application.ApsControl.length as header-length′
 use Rattle.nib.proofs.key_of as nib-key-of′
+use Rattle.nib.proofs.key_row as nib-key-row′
 use Rattle.nib.proofs.capacity as nib-capacity′
+use Rattle.nib.proofs.sending as nib-sending′
 use Rattle.nib.proofs.usable as nib-usable′
 use Rattle.nib.proofs.reset as nib-reset′
 use Rattle.nib.proofs.following as nib-following′
 use Rattle.nib.proofs.turned as nib-turned′
+use Rattle.nib.proofs.searched as nib-searched′
+use Rattle.nib.proofs.empty_row as nib-empty-row′
+use Rattle.nib.proofs.recorded_row as nib-recorded-row′
+use Rattle.nib.proofs.nobody as nib-nobody′
+use Rattle.nib.proofs.somebody as nib-somebody′
+use Rattle.nib.proofs.placing as nib-placing′
+use Rattle.nib.proofs.closing as nib-closing′
 use Rattle.counter_record.proofs.take as counter-record-take′
 use Rattle.counter_rows.proofs.held as counter-rows-held′
-use Rattle.counter_rows.proofs.record as counter-rows-record′
+use Rattle.counter_rows.proofs.settle as counter-rows-settle′
 use Rattle.counter_rows.proofs.forget as counter-rows-forget′
+use Rattle.by_value.proofs.settle_with as by-value-settle-with′
 use Rattle.by_value.proofs.record_with as by-value-record-with′
 use Rattle.by_value.proofs.forget_with as by-value-forget-with′
 use Rattle.by_value.proofs.held_with as by-value-held-with′
@@ -103,6 +113,10 @@ use Rattle.claims.proofs.aps_who as claims-aps-who′
 use Rattle.protection.proofs.unprotect as protection-unprotect′
 use Rattle.protection.proofs.vouch as protection-vouch′
 use Rattle.protection.proofs.protect as protection-protect′
+use Rattle.judging.proofs.caller_of as judging-caller-of′
+use Rattle.judging.proofs.judge as judging-judge′
+use Rattle.securing.proofs.ready_for as securing-ready-for′
+use Rattle.securing.proofs.finish as securing-finish′
 use Rattle.nwk.proofs.open_nwk as nwk-open-nwk′
 use Rattle.nwk.proofs.secure_nwk as nwk-secure-nwk′
 use Rattle.nwk_by_value.proofs.open_with as nwk-by-value-open-with′
@@ -387,9 +401,17 @@ pub nib-key-of : Decides nib-key-of′.ended nib-key-of′.Reads.Post
 unfolding Decides
 nib-key-of κs a z z′ ws ws′ p q = (p ∙ sym q, refl)
 
+pub nib-key-row : Decides nib-key-row′.ended nib-key-row′.Reads.Post
+unfolding Decides
+nib-key-row κs a z z′ ws ws′ p q = (p ∙ sym q, refl)
+
 pub nib-capacity : Decides nib-capacity′.ended nib-capacity′.Reads.Post
 unfolding Decides
 nib-capacity κs a z z′ ws ws′ p q = (p ∙ sym q, refl)
+
+pub nib-sending : Decides nib-sending′.ended nib-sending′.Reads.Post
+unfolding Decides
+nib-sending κs a z z′ ws ws′ p q = (p ∙ sym q, refl)
 
 pub nib-usable : Decides nib-usable′.ended nib-usable′.Reads.Post
 unfolding Decides
@@ -406,6 +428,34 @@ nib-following κs a z z′ ws ws′ p q = (p ∙ sym q, refl)
 pub nib-turned : Decides nib-turned′.ended nib-turned′.Reads.Post
 unfolding Decides
 nib-turned κs a z z′ ws ws′ p q = (p ∙ sym q, refl)
+
+pub nib-searched : Decides nib-searched′.ended nib-searched′.Reads.Post
+unfolding Decides
+nib-searched κs a z z′ ws ws′ p q = (p ∙ sym q, refl)
+
+pub nib-empty-row : Decides nib-empty-row′.ended nib-empty-row′.Reads.Post
+unfolding Decides
+nib-empty-row κs a z z′ ws ws′ p q = (p ∙ sym q, refl)
+
+pub nib-recorded-row : Decides nib-recorded-row′.ended nib-recorded-row′.Reads.Post
+unfolding Decides
+nib-recorded-row κs a z z′ ws ws′ p q = (p ∙ sym q, refl)
+
+pub nib-nobody : Decides nib-nobody′.ended nib-nobody′.Reads.Post
+unfolding Decides
+nib-nobody κs a z z′ ws ws′ p q = (p ∙ sym q, refl)
+
+pub nib-somebody : Decides nib-somebody′.ended nib-somebody′.Reads.Post
+unfolding Decides
+nib-somebody κs a z z′ ws ws′ p q = (p ∙ sym q, refl)
+
+pub nib-placing : Decides nib-placing′.ended nib-placing′.Reads.Post
+unfolding Decides
+nib-placing κs a z z′ ws ws′ p q = (p ∙ sym q, refl)
+
+pub nib-closing : Decides nib-closing′.ended nib-closing′.Reads.Post
+unfolding Decides
+nib-closing κs a z z′ ws ws′ p q = (p ∙ sym q, refl)
 
 -- ---- counter_record
 
@@ -433,16 +483,16 @@ pub counter-rows-held : Decides counter-rows-held′.ended counter-rows-held-pro
 unfolding Decides
 counter-rows-held κs a z z′ ws ws′ p q = (p ∙ sym q, refl)
 
-abbrev counter-rows-record-promise : Promise counter-rows-record′.ended
-counter-rows-record-promise κs a z e = left z (e .0 .now) ≡ recorded (a .0 .now) (a .1 .0) (pair (a .1 .1 .0) (a .1 .1 .1 .0)) (a .1 .1 .1 .1 .0)
+abbrev counter-rows-settle-promise : Promise counter-rows-settle′.ended
+counter-rows-settle-promise κs a z e = left z (e .0 .now) ≡ settled (a .0 .now) (a .1 .0) (a .1 .1 .0)
 
-pub counter-rows-record-says : Says counter-rows-record′.ended counter-rows-record-promise (λ M. counter-rows-record′.clauses {M = M})
+pub counter-rows-settle-says : Says counter-rows-settle′.ended counter-rows-settle-promise (λ M. counter-rows-settle′.clauses {M = M})
 unfolding Says
-counter-rows-record-says M 𝓤 H A mem run κs a g z e = refl
+counter-rows-settle-says M 𝓤 H A mem run κs a g z e = refl
 
-pub counter-rows-record : Decides counter-rows-record′.ended counter-rows-record-promise
+pub counter-rows-settle : Decides counter-rows-settle′.ended counter-rows-settle-promise
 unfolding Decides
-counter-rows-record κs a z z′ ws ws′ p q = let w = counters.one _ z z′ _ _ p q in (w .0, λ i. (w .1 i, (tt, (tt, (tt, (tt, tt))))))
+counter-rows-settle κs a z z′ ws ws′ p q = let w = counters.one _ z z′ _ _ p q in (w .0, λ i. (w .1 i, (tt, (tt, tt))))
 
 abbrev counter-rows-forget-promise : Promise counter-rows-forget′.ended
 counter-rows-forget-promise κs a z e = left z (e .0 .now) ≡ forgotten (a .0 .now) (a .1 .0) (a .1 .1 .0)
@@ -456,6 +506,10 @@ unfolding Decides
 counter-rows-forget κs a z z′ ws ws′ p q = let w = counters.one _ z z′ _ _ p q in (w .0, λ i. (w .1 i, (tt, (tt, tt))))
 
 -- ---- by_value
+
+pub by-value-settle-with : Decides by-value-settle-with′.ended by-value-settle-with′.Reads.Post
+unfolding Decides
+by-value-settle-with κs a z z′ ws ws′ p q = let same = p ∙ sym q in (λ i. record { rows = same i .rows; used = same i .used; outcome = same i .outcome }, refl)
 
 pub by-value-record-with : Decides by-value-record-with′.ended by-value-record-with′.Reads.Post
 unfolding Decides
@@ -518,6 +572,24 @@ protection-vouch κs a z z′ ws ws′ p q = (p ∙ sym q, refl)
 pub protection-protect : Decides protection-protect′.ended protection-protect′.Reads.Post
 unfolding Decides
 protection-protect κs a z z′ ws ws′ p q = (refl, λ i. (tt, (tt, (tt, ((p ∙ sym q) i, (tt, (tt, (tt, tt))))))))
+
+-- ---- judging and securing
+
+pub judging-caller-of : Decides judging-caller-of′.ended judging-caller-of′.Reads.Post
+unfolding Decides
+judging-caller-of κs a z z′ ws ws′ p q = (p ∙ sym q, refl)
+
+pub judging-judge : Decides judging-judge′.ended judging-judge′.Reads.Post
+unfolding Decides
+judging-judge κs a z z′ ws ws′ p q = (p .0 ∙ sym (q .0), λ i. (tt, (tt, (tt, ((p .1 ∙ sym (q .1)) i, tt)))))
+
+pub securing-ready-for : Decides securing-ready-for′.ended securing-ready-for′.Reads.Post
+unfolding Decides
+securing-ready-for κs a z z′ ws ws′ p q = (p ∙ sym q, refl)
+
+pub securing-finish : Decides securing-finish′.ended securing-finish′.Reads.Post
+unfolding Decides
+securing-finish κs a z z′ ws ws′ p q = (refl, λ i. (tt, (tt, (tt, ((p ∙ sym q) i, (tt, tt))))))
 
 -- ---- nwk
 

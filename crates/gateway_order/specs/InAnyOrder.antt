@@ -9,7 +9,7 @@ use Rattle.cells.specs.Desk.{write, openAt, openAll}
 use Rattle.cells.specs.Reorder.{Reordered}
 use Rattle.nib.specs.Counters.{capacity}
 use Rattle.nwk.specs.Leaves.{opened}
-use Rattle.nwk.specs.OpenNwk.{openNwk}
+use Rattle.judging.specs.OpenNwk.{openNwk}
 use Rattle.order.specs.AnyOrder.{nwk-in-any-order}
 use Rattle.order.specs.Frames.{leaves, says}
 use Rattle.order.specs.Nwk as nwk

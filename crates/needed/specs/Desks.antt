@@ -19,7 +19,7 @@ use Rattle.nib.specs.Active.{turn}
 use Rattle.nib.specs.Counters.{empty, pair}
 use Rattle.nib.specs.Keys.{keyFound}
 use Rattle.nib.specs.Pairs.{Pair}
-use Rattle.nwk.specs.OpenNwk.{nwkPlaced, openNwk}
+use Rattle.judging.specs.OpenNwk.{nwkPlaced, openNwk}
 use Rattle.order.specs.Nwk.{NwkDesk, names, opened}
 use Rattle.needed.specs.TwoFrames.{forth, back, saying, turned}
 use Rattle.needed.specs.OnAir.{key, sender, underTwo, underThree, Has, two-claims, three-claims, two-opens, three-opens, two-again}

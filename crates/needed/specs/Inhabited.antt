@@ -20,8 +20,8 @@ use Rattle.nib.specs.declared.counters.CounterRow.{CounterRow}
 use Rattle.nib.specs.Counters.{empty}
 use Rattle.nib.specs.Keys.{keyFound}
 use Rattle.claims.specs.Claims.{nwkWho}
-use Rattle.nwk.specs.declared.state.Nwk.{Nwk}
-use Rattle.nwk.specs.OpenNwk.{nwkPlaced, openNwk}
+use Rattle.nib.specs.declared.state.Nwk.{Nwk}
+use Rattle.judging.specs.OpenNwk.{nwkPlaced, openNwk}
 use Rattle.nwk.proofs.RoundNwk as RoundNwk
 use Rattle.order.specs.AnyOrder.{nwk-in-any-order}
 use Rattle.order.specs.Cases.{NwkHeard, NwkOpens, NwkSends}

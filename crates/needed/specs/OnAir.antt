@@ -22,13 +22,14 @@ use Rattle.answer.specs.declared.Answer.the-variants.{Done}
 use Rattle.answer.specs.declared.Refusal.the-variants.{CounterRepeated, TableFull}
 use Rattle.cells.specs.Rows.{Reaction, leave, become}
 use Rattle.nib.specs.declared.keys.NetworkKeys.{NetworkKeys}
+use Rattle.nib.specs.Counters.{Cell, counting}
 use Rattle.nib.specs.Keys.{keyFound}
 use Rattle.claims.specs.declared.Claim.{Claim}
 use Rattle.claims.specs.declared.Who.the-variants.{Claims}
 use Rattle.claims.specs.Claims.{nwkWho}
 use Rattle.protection.specs.Heard.{Heard, refused}
 use Rattle.protection.specs.Protection.{vouches, openedOctets}
-use Rattle.nwk.specs.OpenNwk.{nwkJudged}
+use Rattle.judging.specs.OpenNwk.{nwkJudged}
 
 -- the key is 00 01 .. 0F, under any number
 abbrev pub key : List ℕ
@@ -78,8 +79,8 @@ abbrev pub claimUnder : ℕ → Claim
 claimUnder n = record { key = used.Network n; sender = sender; counter = 5; control = record { byte = 0x28 }; at = 8; payload = 22 }
 
 -- the frame opens, unless there is no row for it
-abbrev pub opensFresh : List ℕ → Reaction Heard ℕ
-opensFresh b = become 5 (record { answer = Done 22 0; frame = openedOctets key sender 5 8 22 b }) (refused TableFull b)
+abbrev pub opensFresh : List ℕ → Reaction Heard Cell
+opensFresh b = become (counting 5) (record { answer = Done 22 0; frame = openedOctets key sender 5 8 22 b }) (refused TableFull b)
 
 -- the keys have the row that the frame names
 abbrev pub Has : NetworkKeys → ℕ → Type 0
@@ -107,6 +108,6 @@ pub three-opens : (keys : NetworkKeys) → Has keys 3 → nwkJudged keys (claimU
 three-opens keys h = opens-under 3 _ _ _ _ keys h three-vouches
 
 -- a second copy is refused
-pub two-again : (keys : NetworkKeys) → nwkJudged keys (claimUnder 2) (some 5) underTwo ≡ leave (refused CounterRepeated underTwo)
+pub two-again : (keys : NetworkKeys) → nwkJudged keys (claimUnder 2) (some (counting 5)) underTwo ≡ leave (refused CounterRepeated underTwo)
 unfolding nwkJudged
 two-again keys = refl

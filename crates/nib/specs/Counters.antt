@@ -1,7 +1,7 @@
 -- The counters heard (document 01, 'The state' and 'Called alone'): a table of rows, each for a key number and a sender. The
 -- rows are lent, and the first `used` of them are in use.
 use mathlib.Core.Path.{refl}
-use mathlib.Core.Bool.{Bool, false, cond, not}
+use mathlib.Core.Bool.{Bool, true, false, cond, not}
 use mathlib.Core.List.{List, _++_}
 use mathlib.Core.Option.{Option, none, some}
 use Prim.Native.Nat.{ℕ, _-_, min}
@@ -13,9 +13,8 @@ use Rattle.answer.specs.declared.Refusal.{Refusal}
 use Rattle.answer.specs.declared.Refusal.the-variants.{Unsupported, TableFull}
 use Rattle.cells.specs.Lists.{keep}
 use Rattle.cells.specs.Rows.{Rows, find, put, room}
+use Rattle.nib.specs.declared.counters.Change.{Change}
 use Rattle.nib.specs.declared.counters.CounterRow.{CounterRow}
-use Rattle.nib.specs.declared.counters.Known.{Known}
-use Rattle.nib.specs.declared.counters.Known.the-variants.{Nothing, Counter}
 use Rattle.nib.specs.declared.counters.Recorded.{Recorded}
 use Rattle.nib.specs.declared.counters.Standing.{Standing}
 use Rattle.nib.specs.Pairs.{Pair, samePair, same-pair-refl, same-pair-eq}
@@ -23,12 +22,34 @@ use Rattle.nib.specs.Pairs.{Pair, samePair, same-pair-refl, same-pair-eq
 abbrev pub pair : ℕ → ℕ → Pair
 pair n s = record { number = n; sender = s }
 
--- a row's key is its key number and sender; its cell is the counter
-abbrev pub counterRows : Rows CounterRow Pair ℕ
+-- what a row holds for its pair
+pub record Cell : Type 0 where
+  pub counter : ℕ
+
+-- a cell that holds this counter and nothing else
+abbrev pub counting : ℕ → Cell
+counting n = record { counter = n }
+
+-- the counter that is held, if there is a cell
+abbrev pub counterIn : Option Cell → Option ℕ
+counterIn none = none
+counterIn (some c) = some (c .counter)
+
+abbrev pub rowOf : Pair → Cell → CounterRow
+rowOf k c = record { number = k .number; sender = k .sender; counter = c .counter }
+
+abbrev pub rowPair : CounterRow → Pair
+rowPair r = pair (r .number) (r .sender)
+
+abbrev pub rowCell : CounterRow → Cell
+rowCell r = record { counter = r .counter }
+
+-- a row's key is its key number and sender; its cell is the rest
+abbrev pub counterRows : Rows CounterRow Pair Cell
 counterRows = record {
-  keyOf = λ r. pair (r .number) (r .sender);
-  cellOf = λ r. r .counter;
-  make = λ k c. record { number = k .number; sender = k .sender; counter = c };
+  keyOf = rowPair;
+  cellOf = rowCell;
+  make = rowOf;
   same = samePair;
   key-make = λ k c. refl;
   cell-make = λ k c. refl;
@@ -46,14 +67,19 @@ overfull rows used = ltb (capacity (length rows)) used
 
 -- ---- what is held
 
-abbrev pub known : Option ℕ → Known
-known none = Nothing
-known (some c) = Counter c
+-- zeros
+abbrev pub empty : CounterRow
+empty = record { number = 0; sender = 0; counter = 0 }
+
+-- the row that is found, or zeros
+abbrev pub standing : Bool → Pair → Option Cell → Standing
+standing room k none = record { room = room; found = false; row = empty }
+standing room k (some c) = record { room = room; found = true; row = rowOf k c }
 
 unfoldable pub heldFor : List CounterRow → ℕ → Pair → Standing
 heldFor rows used k =
-    cond (overfull rows used) (record { room = false; known = Nothing })
-    (record { room = room counterRows (capacity (length rows)) (take used rows) k; known = known (find counterRows (take used rows) k) })
+    cond (overfull rows used) (standing false k none)
+    (standing (room counterRows (capacity (length rows)) (take used rows) k) k (find counterRows (take used rows) k))
 
 -- ---- what a call leaves: its outcome, the count in use, and all rows that were lent
 
@@ -74,18 +100,24 @@ refused why used rows = record { outcome = Refused why; used = used; rows = rows
 abbrev pub over : {A : Type 0} → List A → List A → List A
 over table rows = table ++ drop (length table) rows
 
--- recording, as an opening does it: the pair's row holds the counter, a new row goes after the last
-unfoldable pub recorded : List CounterRow → ℕ → Pair → ℕ → After
-recorded rows used k c =
+-- the pair's row holds the cell, a new row goes after the last
+unfoldable pub placed : List CounterRow → ℕ → Pair → Cell → After
+placed rows used k c =
     cond (overfull rows used) (refused Unsupported used rows)
     (cond (room counterRows (capacity (length rows)) (take used rows) k)
     (let table = put counterRows (take used rows) k c in record { outcome = Done; used = length table; rows = over table rows })
     (refused TableFull used rows))
 
--- forgetting: every row of one key number goes, gaps close in order, and zeros stand in the places given up
-abbrev pub empty : CounterRow
-empty = record { number = 0; sender = 0; counter = 0 }
+-- recording, as an opening does it: the pair's row holds the counter
+abbrev pub recorded : List CounterRow → ℕ → Pair → ℕ → After
+recorded rows used k n = placed rows used k (counting n)
 
+-- what a frame makes of the table: its row, or nothing
+unfoldable pub settled : List CounterRow → ℕ → Change → After
+unfolding placed
+settled rows used c = cond (c .writes) (placed rows used (rowPair (c .row)) (rowCell (c .row))) (record { outcome = Done; used = used; rows = rows })
+
+-- forgetting: every row of one key number goes, gaps close in order, and zeros stand in the places given up
 abbrev pub stays : ℕ → CounterRow → Bool
 stays n row = not (eqb (row .number) n)
 

@@ -12,12 +12,15 @@ use Rattle.nib.specs.declared.keys.NetworkKey.{NetworkKey}
 use Rattle.nib.specs.declared.keys.NetworkKeys.{NetworkKeys}
 use Rattle.nib.specs.declared.keys.KeyFound.{KeyFound}
 
+abbrev pub keyRow : ℕ → List ℕ → NetworkKey
+keyRow n k = record { number = n; key = k }
+
 -- a row's key in the table is its number; its cell is the network key
 abbrev pub keyRows : Rows NetworkKey ℕ (List ℕ)
 keyRows = record {
   keyOf = λ r. r .number;
   cellOf = λ r. r .key;
-  make = λ n k. record { number = n; key = k };
+  make = keyRow;
   same = eqb;
   key-make = λ n k. refl;
   cell-make = λ n k. refl;
@@ -27,12 +30,12 @@ keyRows = record {
 
 -- a row of zeros
 abbrev pub none-found : NetworkKey
-none-found = record { number = 0; key = replicate 16 0 }
+none-found = keyRow 0 (replicate 16 0)
 
 -- what a search answers: the row, or a row of zeros
 abbrev pub answered : ℕ → Option (List ℕ) → KeyFound
 answered n none = record { found = false; row = none-found }
-answered n (some k) = record { found = true; row = record { number = n; key = k } }
+answered n (some k) = record { found = true; row = keyRow n k }
 
 -- the first row of that number among those in use
 unfoldable pub keyFound : NetworkKeys → ℕ → KeyFound

@@ -5,6 +5,7 @@ pub mod Keys
 pub mod KeyLaws
 pub mod Pairs
 pub mod Counters
+pub mod Placing
 pub mod CounterLaws
 pub mod Gaps
 pub mod Forgetting

@@ -8,6 +8,10 @@ use Rattle.answer.specs.declared.Refusal.the-variants.{CounterExhausted}
 use Rattle.nib.specs.declared.outgoing.Outgoing.{Outgoing}
 use Rattle.nib.specs.declared.outgoing.Taken.{Taken}
 
+-- this counter is sent next
+abbrev pub sending : ℕ → Outgoing
+sending n = record { next = n }
+
 -- 2^32-1 is not used
 abbrev pub mayUse : Outgoing → Bool
 mayUse o = not (eqb (o .next) 4294967295)
@@ -25,9 +29,9 @@ took r o = record { outcome = r .outcome; counter = r .counter; outgoing = o }
 -- the counter is handed back and the next one is left; or 0 is handed back and nothing changes
 unfoldable pub taken : Outgoing → AfterTaking
 taken o =
-    cond (mayUse o) (record { outcome = Done; counter = o .next; outgoing = record { next = o .next + 1 } })
+    cond (mayUse o) (record { outcome = Done; counter = o .next; outgoing = sending (o .next + 1) })
     (record { outcome = Refused CounterExhausted; counter = 0; outgoing = o })
 
 -- above 0x80000000 it becomes 0, otherwise it stays
 unfoldable pub restarted : Outgoing → Outgoing
-restarted o = cond (ltb 2147483648 (o .next)) (record { next = 0 }) o
+restarted o = cond (ltb 2147483648 (o .next)) (sending 0) o

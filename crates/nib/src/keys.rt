@@ -3,7 +3,7 @@ ghost use mathlib.Core.Path.{_≡_};
 ghost use Prim.Native.Nat.{_≤_, min};
 ghost use lib.ListN.{take};
 ghost use Rattle.cells.specs.Rows.{placeOf};
-ghost use Rattle.nib.specs.Keys.{keyRows, keyFound};
+ghost use Rattle.nib.specs.Keys.{keyRow, keyRows, keyFound};
 
 #[repr(C)]
 pub struct NetworkKey {
@@ -22,6 +22,13 @@ pub struct NetworkKeys {
 pub struct KeyFound {
     pub found: bool,
     pub row: NetworkKey,
+}
+
+// A row of this number, with this key.
+pub fn key_row(number: u8, key: [u8; 16]) -> NetworkKey
+    ensures { λ r. ⌜ r ≡ keyRow number key ⌝ }
+{
+    NetworkKey { number, key }
 }
 
 // How many rows are in use: no more than there are.
@@ -55,13 +62,8 @@ pub fn key_of(keys: NetworkKeys, number: u8) -> KeyFound
     let used = in_use(keys);
     let at = place_of(keys, used, number);
     if at == used {
-        KeyFound {
-            found: false,
-            row: NetworkKey {
-                number: 0,
-                key: [0; 16],
-            },
-        }
+        let row = key_row(0, [0; 16]);
+        KeyFound { found: false, row }
     } else {
         let row = keys.rows[at];
         KeyFound { found: true, row }

@@ -1,6 +1,6 @@
 // The counter that the network layer sends next (ZB 4.3.1.1, 4.3.4): one for all keys. The crate `counter_record` takes from it.
 ghost use mathlib.Core.Path.{_≡_};
-ghost use Rattle.nib.specs.Sending.{mayUse, restarted};
+ghost use Rattle.nib.specs.Sending.{sending, mayUse, restarted};
 use answer::Outcome;
 
 #[repr(C)]
@@ -12,6 +12,13 @@ pub struct Outgoing {
 pub struct Taken {
     pub outcome: Outcome,
     pub counter: u32,
+}
+
+// The record that this counter is sent from next.
+pub fn sending(next: u32) -> Outgoing
+    ensures { λ r. ⌜ r ≡ sending next ⌝ }
+{
+    Outgoing { next }
 }
 
 // The last counter is never sent: no other could follow it.
@@ -26,7 +33,7 @@ pub fn reset(outgoing: Outgoing) -> Outgoing
     ensures { λ r. ⌜ r ≡ restarted outgoing ⌝ }
 {
     if outgoing.next > 0x80000000 {
-        Outgoing { next: 0 }
+        sending(0)
     } else {
         outgoing
     }

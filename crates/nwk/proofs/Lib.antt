@@ -1,5 +1,2 @@
 pub mod Values
-pub mod Commit
-pub mod ReadyLaws
-pub mod SecuringLaws
 pub mod RoundNwk

@@ -28,26 +28,26 @@ use Rattle.header.specs.Nwk.{nwkControl, nwkKind, nwkLength, nwkOf}
 use Rattle.header.specs.NwkLaws.{nwk-whole, same-control, same-length}
 use Rattle.nib.specs.declared.counters.CounterRow.{CounterRow}
 use Rattle.nib.specs.declared.outgoing.Outgoing.{Outgoing}
-use Rattle.nib.specs.Counters.{counterRows, capacity, pair}
+use Rattle.nib.specs.Counters.{Cell, counting, counterIn, counterRows, capacity, pair}
 use Rattle.nib.specs.Keys.{keyFound}
 use Rattle.claims.specs.declared.Claim.{Claim}
 use Rattle.claims.specs.declared.Who.the-variants.{Claims}
 use Rattle.claims.specs.Claims.{spent, nwkWho}
 use Rattle.protection.specs.Heard.{refused, equals, below}
 use Rattle.protection.specs.Protection.{tagSize, payloadSize, vouches, openedOctets}
-use Rattle.nwk.specs.declared.state.Nwk.{Nwk}
-use Rattle.nwk.specs.OpenNwk.{Opened, nwkCommitted, nwkJudged, nwkPlaced, nwkUnfit, openNwk}
-use Rattle.nwk.specs.SecureNwk.{Secured, nwkAdded, nwkHeaders, nwkOnAir, secureNwk}
+use Rattle.nib.specs.declared.state.Nwk.{Nwk}
+use Rattle.judging.specs.OpenNwk.{Opened, nwkCommitted, nwkJudged, nwkPlaced, nwkUnfit, openNwk}
+use Rattle.securing.specs.SecureNwk.{Secured, nwkAdded, nwkHeaders, nwkOnAir, secureNwk}
 use Rattle.protection.proofs.RoundTrip as protection
-use Rattle.nwk.proofs.ReadyLaws.{Checked, is-checked}
-use Rattle.nwk.proofs.SecuringLaws.{auxiliary-size}
+use Rattle.securing.proofs.ReadyLaws.{Checked, is-checked}
+use Rattle.securing.proofs.SecuringLaws.{auxiliary-size}
 
 -- ---- the gateway that hears it: the same key under the same number; a held counter of that pair, if there is one, is lower; and room
 
 pub record Hears (s : Nwk) (o : Outgoing) (g : Nwk) (rows : List CounterRow) (inUse : ℕ) : Type 0 where
   pub fit : nwkUnfit g rows inUse ≡ false
   pub same-key : keyFound (g .keys) (s .active) ≡ keyFound (s .keys) (s .active)
-  pub lower : (held : ℕ) → find counterRows (take inUse rows) (pair (s .active) (s .own)) ≡ some held → held < o .next
+  pub lower : (held : ℕ) → counterIn (find counterRows (take inUse rows) (pair (s .active) (s .own))) ≡ some held → held < o .next
   pub has-room : room counterRows (capacity (length rows)) (take inUse rows) (pair (s .active) (s .own)) ≡ true
 
 module _ (s : Nwk) (o : Outgoing) (plain out : List ℕ) (start len : ℕ) (done : (secureNwk s o plain out) .answer ≡ Done start len)
@@ -130,14 +130,14 @@ module _ (s : Nwk) (o : Outgoing) (plain out : List ℕ) (start len : ℕ) (done
         rw (many, few, header-read, auxiliary-read, not-true (eqb (o .next) spent) (checked .usable), hears .same-key, checked .found)
 
     -- the judgement: the counter is above a held one, the tag is there, and it is right
-    abbrev held : Option ℕ
+    abbrev held : Option Cell
     held = find counterRows (take inUse rows) (pair (s .active) (s .own))
 
     -- the headers with level 5, the payload, and the tag
     unfoldable pub opened : List ℕ
     opened = protection.laid key (s .own) (o .next) header headers payload inside
 
-    not-held : (h : Option ℕ) → held ≡ h → (equals h (o .next) ≡ false) × (below h (o .next) ≡ false)
+    not-held : (h : Option ℕ) → counterIn held ≡ h → (equals h (o .next) ≡ false) × (below h (o .next) ≡ false)
     not-held none e = (refl, refl)
     not-held (some m) e =
         let l : m < o .next = hears .lower m e in
@@ -147,10 +147,10 @@ module _ (s : Nwk) (o : Outgoing) (plain out : List ℕ) (start len : ℕ) (done
     size = rw frame-length (omega arith)
 
     frame-judged : nwkJudged (g .keys) claim held frame
-        ≡ become (o .next) (record { answer = Done (header + 14) (length plain - header); frame = opened }) (refused TableFull frame)
+        ≡ become (counting (o .next)) (record { answer = Done (header + 14) (length plain - header); frame = opened }) (refused TableFull frame)
     unfolding nwkJudged nwkOnAir opened
     frame-judged =
-        let n = not-held held refl in
+        let n = not-held (counterIn held) refl in
         let w : header ≤ length plain = checked .whole in
         let whole : ltb (length frame) (header + 14 + tagSize) ≡ false = le-ltb (length frame) (header + 14 + tagSize) (rw frame-length (omega arith)) in
         let right : vouches key (s .own) (o .next) header (header + 14) frame ≡ true =
@@ -162,7 +162,7 @@ module _ (s : Nwk) (o : Outgoing) (plain out : List ℕ) (start len : ℕ) (done
     -- all that the opening leaves: the pair's row holds the counter
     pub heard-frame : openNwk g rows inUse frame
         ≡ nwkCommitted g rows (pair (s .active) (s .own))
-        (record { out = record { answer = Done (header + 14) (length plain - header); frame = opened }; rows = put counterRows (take inUse rows) (pair (s .active) (s .own)) (o .next) })
+        (record { out = record { answer = Done (header + 14) (length plain - header); frame = opened }; rows = put counterRows (take inUse rows) (pair (s .active) (s .own)) (counting (o .next)) })
     unfolding openNwk nwkPlaced settle
     heard-frame = rw (hears .fit, frame-claims, frame-judged, hears .has-room)
 

@@ -10,11 +10,11 @@ use Rattle.nib.specs.declared.outgoing.Outgoing.{Outgoing}
 use Rattle.nib.proofs.outgoing.Outgoing as O
 use Rattle.nib.proofs.outgoing.Outgoing.Laws as O′
 use Rattle.nwk.specs.declared.open.OpenedNwk.{OpenedNwk}
-use Rattle.nwk.specs.declared.state.Nwk.{Nwk}
+use Rattle.nib.specs.declared.state.Nwk.{Nwk}
 use Rattle.nwk.proofs.open.OpenedNwk as R
 use Rattle.nwk.proofs.open.OpenedNwk.Laws as R′
-use Rattle.nwk.proofs.state.Nwk as N
-use Rattle.nwk.proofs.state.Nwk.Laws as N′
+use Rattle.nib.proofs.state.Nwk as N
+use Rattle.nib.proofs.state.Nwk.Laws as N′
 
 abbrev pub nv : Nwk → Val
 nv s = only (LL.vals N.the-type N′.the-laws s)

@@ -5,8 +5,8 @@ use Rattle.answer.specs.declared.Answer.{Answer}
 use Rattle.nib.specs.declared.counters.CounterRow.{CounterRow}
 use Rattle.nib.specs.declared.outgoing.Outgoing.{Outgoing}
 use Rattle.nwk.specs.declared.open.OpenedNwk.{OpenedNwk}
-use Rattle.nwk.specs.OpenNwk.{Opened}
-use Rattle.nwk.specs.SecureNwk.{Secured}
+use Rattle.judging.specs.OpenNwk.{Opened}
+use Rattle.securing.specs.SecureNwk.{Secured}
 
 abbrev pub opened : OpenedNwk → List CounterRow → List ℕ → Opened
 opened r rows frame = record { answer = r .answer; frame = frame; rows = rows; used = r .used; active = r .active }

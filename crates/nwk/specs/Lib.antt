@@ -1,5 +1,1 @@
-pub mod OpenNwk
-pub mod SecureNwk
 pub mod Leaves
-pub mod Halves
-pub mod Ready

@@ -1,12 +1,12 @@
 // Opening NWK: a judgement that only reads the rows, and then one commit.
 ghost use mathlib.Core.Path.{_≡_};
-ghost use Rattle.nwk.specs.OpenNwk.{openNwk};
+ghost use Rattle.judging.specs.OpenNwk.{openNwk};
 ghost use Rattle.nwk.specs.Leaves.{opened};
-use crate::judge::caller_of;
-use crate::judge::judge;
-use crate::state::Nwk;
 use answer::Answer;
+use judging::caller_of;
+use judging::judge;
 use nib::CounterRow;
+use nib::Nwk;
 
 // The answer, how many counter rows are in use after it, and the number of the active key.
 pub struct OpenedNwk {
@@ -22,23 +22,10 @@ pub fn open_nwk(nwk: Nwk, rows: &mut [CounterRow], used: usize, frame: &mut [u8]
     let caller = caller_of(nwk, rows.len(), used, frame);
     let standing = counter_rows::held(rows, used, caller.number, caller.sender);
     let verdict = judge(nwk, caller.who, standing, frame);
-    if verdict.opens {
-        let recorded = counter_rows::record(
-            rows,
-            used,
-            caller.number,
-            caller.sender,
-            caller.counter,
-        );
-        return OpenedNwk {
-            answer: verdict.answer,
-            used: recorded.used,
-            active: verdict.active,
-        };
-    }
+    let settled = counter_rows::settle(rows, used, verdict.change);
     OpenedNwk {
         answer: verdict.answer,
-        used,
+        used: settled.used,
         active: verdict.active,
     }
 }

@@ -1,8 +1,8 @@
 -- What the calls by value leave, read as what the calls on lent memory leave.
 use mathlib.Core.List.{List}
 use Prim.Native.Nat.{ℕ}
-use Rattle.nwk.specs.OpenNwk.{Opened}
-use Rattle.nwk.specs.SecureNwk.{Secured}
+use Rattle.judging.specs.OpenNwk.{Opened}
+use Rattle.securing.specs.SecureNwk.{Secured}
 use Rattle.nwk_by_value.specs.declared.OpenedWith.{OpenedWith}
 use Rattle.nwk_by_value.specs.declared.SecuredWith.{SecuredWith}
 

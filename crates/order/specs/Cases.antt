@@ -23,7 +23,7 @@ use Rattle.header.specs.Nwk.{nwkOf}
 use Rattle.mmo.specs.Hash.{padding}
 use Rattle.nib.specs.declared.counters.CounterRow.{CounterRow}
 use Rattle.nib.specs.Active.{turn}
-use Rattle.nib.specs.Counters.{counterRows, pair}
+use Rattle.nib.specs.Counters.{counterIn, counterRows, pair}
 use Rattle.nib.specs.Keys.{keyFound}
 use Rattle.nib.specs.Sending.{taken, restarted}
 use Rattle.nib.specs.Cases as nib
@@ -35,9 +35,9 @@ use Rattle.claims.specs.declared.Who.{Who}
 use Rattle.claims.specs.declared.Who.the-variants.{Told, Claims}
 use Rattle.claims.specs.Claims.{numberOf, nwkWho, apsWho}
 use Rattle.protection.specs.Heard.{refused}
-use Rattle.nwk.specs.declared.state.Nwk.{Nwk}
-use Rattle.nwk.specs.OpenNwk.{unchanged, activeAfter, nwkJudged, nwkPlaced, nwkUnfit, openNwk}
-use Rattle.nwk.specs.SecureNwk.{secureNwk}
+use Rattle.nib.specs.declared.state.Nwk.{Nwk}
+use Rattle.judging.specs.OpenNwk.{unchanged, activeAfter, nwkJudged, nwkPlaced, nwkUnfit, openNwk}
+use Rattle.securing.specs.SecureNwk.{secureNwk}
 use Rattle.aps.specs.declared.state.Aps.{Aps}
 use Rattle.aps.specs.OpenAps.{apsJudged, apsPlaced, apsUnfit, openAps}
 
@@ -50,7 +50,7 @@ pub record NwkHeard (s : Nwk) (rows : List CounterRow) (used : ℕ) (b : List �
   pub claim : Claim
   pub taken : nwkUnfit s rows used ≡ false
   pub claims : nwkWho (s .keys) b ≡ Claims claim
-  pub holds : find counterRows (take used rows) (pair (numberOf (claim .key)) (claim .sender)) ≡ some held
+  pub holds : counterIn (find counterRows (take used rows) (pair (numberOf (claim .key)) (claim .sender))) ≡ some held
   pub counts : claim .counter ≡ counter
 
 -- An NWK frame opens, under this key number.

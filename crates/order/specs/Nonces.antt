@@ -26,9 +26,9 @@ use Rattle.aib.specs.Pairs.{mayUse}
 use Rattle.nib.specs.declared.outgoing.Outgoing.{Outgoing}
 use Rattle.aib.specs.declared.pairs.PairRow.{PairRow}
 use Rattle.protection.specs.Protection.{nonceAt}
-use Rattle.nwk.specs.declared.state.Nwk.{Nwk}
-use Rattle.nwk.specs.SecureNwk.{nwkAdded, nwkHeaders, nwkOnAir, secureNwk}
-use Rattle.nwk.specs.SecureNwk as nwk-secured
+use Rattle.nib.specs.declared.state.Nwk.{Nwk}
+use Rattle.securing.specs.SecureNwk.{nwkAdded, nwkHeaders, nwkOnAir, secureNwk}
+use Rattle.securing.specs.SecureNwk as nwk-secured
 use Rattle.aps.specs.SecureAps.{identifierFor, apsAdded, apsOnAir}
 use Rattle.aps.specs.SecureAps as aps-secured
 use Rattle.order.specs.NwkSteps as nwk

@@ -9,13 +9,13 @@ use Rattle.cells.specs.Desk.{Desk, openAll}
 use Rattle.nib.specs.declared.counters.CounterRow.{CounterRow}
 use Rattle.nib.specs.declared.keys.NetworkKey.{NetworkKey}
 use Rattle.nib.specs.declared.keys.NetworkKeys.{NetworkKeys}
-use Rattle.nib.specs.Counters.{counterRows, pair}
+use Rattle.nib.specs.Counters.{Cell, counterIn, counterRows, pair}
 use Rattle.nib.specs.Pairs.{Pair}
 use Rattle.claims.specs.declared.Claim.{Claim}
 use Rattle.claims.specs.Claims.{numberOf, nwkWho, pairOf}
 use Rattle.protection.specs.Heard.{Heard}
-use Rattle.nwk.specs.declared.state.Nwk.{Nwk}
-use Rattle.nwk.specs.OpenNwk.{openNwk}
+use Rattle.nib.specs.declared.state.Nwk.{Nwk}
+use Rattle.judging.specs.OpenNwk.{openNwk}
 use Rattle.order.specs.Frames.{leaves, Said, says}
 
 -- ---- what goes from call to call
@@ -34,9 +34,12 @@ numbers keys = map (λ (r : NetworkKey). r .number) (take (keys .used) (keys .ro
 abbrev pub claimedPair : Claim → Pair
 claimedPair c = pair (numberOf (c .key)) (c .sender)
 
--- the counter that is held for a pair, if one is
+-- what is held for a pair, if anything is; and the counter
+abbrev pub heldCell : Gateway → Pair → Option Cell
+heldCell g k = find counterRows (take (g .used) (g .rows)) k
+
 abbrev pub heldCounter : Gateway → Pair → Option ℕ
-heldCounter g k = find counterRows (take (g .used) (g .rows)) k
+heldCounter g k = counterIn (heldCell g k)
 
 -- ---- one opening, by `openNwk`: what the frame gets, and what the next call finds
 
@@ -74,5 +77,5 @@ newPairs d p = newKeys counterRows (names d) (take (d .state .used) (d .state .r
 pub record Alike (d e : NwkDesk) : Type 0 where
   pub octets : (i : ℕ) → d .buffer i ≡ e .buffer i
   pub answers : (i : ℕ) → d .told i ≡ e .told i
-  pub counters : (k : Pair) → heldCounter (d .state) k ≡ heldCounter (e .state) k
+  pub counters : (k : Pair) → heldCell (d .state) k ≡ heldCell (e .state) k
   pub active : d .state .nwk .active ≡ e .state .nwk .active

@@ -37,7 +37,7 @@ use Rattle.claims.specs.declared.Who.{Who}
 use Rattle.claims.specs.declared.Who.the-variants.{Told, Claims}
 use Rattle.claims.specs.Claims.{spent, refuse, isNetwork, numberOf, claimed, nwkNamed, nwkAuxiliary, nwkHeader, nwkWho, pairOf}
 use Rattle.protection.specs.Heard.{Heard}
-use Rattle.nwk.specs.OpenNwk.{Opened, nwkPlaced, activeAfter}
+use Rattle.judging.specs.OpenNwk.{Opened, nwkPlaced, activeAfter}
 use Rattle.order.specs.Nwk.{Gateway, numbers, claimedPair, answer, after}
 use Rattle.order.specs.NwkMachine.{Good, opening, stays-good}
 

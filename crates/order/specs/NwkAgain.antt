@@ -14,6 +14,7 @@ use Rattle.cells.specs.ListLaws.{clash, either, which}
 use Rattle.cells.specs.Rows.{Reaction, settle}
 use Rattle.cells.specs.Machine.{final}
 use Rattle.nib.specs.declared.keys.NetworkKeys.{NetworkKeys}
+use Rattle.nib.specs.Counters.{Cell, counterIn}
 use Rattle.nib.specs.Pairs.{Pair}
 use Rattle.claims.specs.declared.Claim.{Claim}
 use Rattle.claims.specs.declared.Who.{Who}
@@ -21,26 +22,26 @@ use Rattle.claims.specs.declared.Who.the-variants.{Told, Claims}
 use Rattle.claims.specs.Claims.{nwkWho, pairOf}
 use Rattle.protection.specs.Heard.{Heard, refused, equals, below}
 use Rattle.protection.specs.Protection.{tagSize, vouches}
-use Rattle.nwk.specs.OpenNwk.{unchanged, nwkJudged, nwkPlaced, nwkUnfit, openNwk}
+use Rattle.judging.specs.OpenNwk.{unchanged, nwkJudged, nwkPlaced, nwkUnfit, openNwk}
 use Rattle.cells.specs.Rising.{Rising, stops, rises, AtLeast, one-kept, taken-held}
 use Rattle.cells.specs.Product.{final-keeps}
 use Rattle.order.specs.Stale.{isDone, opens, counterOf, Stale, not-above}
-use Rattle.order.specs.Nwk.{Gateway, claimedPair, heldCounter, answer, after}
+use Rattle.order.specs.Nwk.{Gateway, claimedPair, heldCell, heldCounter, answer, after}
 use Rattle.order.specs.NwkSteps.{Device, Step, opening, securing, taking, afterStep}
 use Rattle.order.specs.NwkMachine.{reaction, Good, taken-good, stays-good, machine}
 use Rattle.order.specs.NwkMachine as taken
 
-rising : (keys : NetworkKeys) (c : Claim) (held : Option ℕ) (b : List ℕ) → Rising (λ n. n) opens (c .counter) held (nwkJudged keys c held b)
+rising : (keys : NetworkKeys) (c : Claim) (held : Option Cell) (b : List ℕ) → Rising (λ n. n .counter) opens (c .counter) held (nwkJudged keys c held b)
 unfolding nwkJudged
 rising keys c held b =
-    let S : Reaction Heard ℕ → Type 0 = Rising (λ n. n) opens (c .counter) held in
-    either S (equals held (c .counter)) (stops _ refl)
-    (which S (below held (c .counter)) (λ t. stops _ refl) (λ t.
+    let S : Reaction Heard Cell → Type 0 = Rising (λ n. n .counter) opens (c .counter) held in
+    either S (equals (counterIn held) (c .counter)) (stops _ refl)
+    (which S (below (counterIn held) (c .counter)) (λ t. stops _ refl) (λ t.
     either S (ltb (length b) (c .payload + tagSize)) (stops _ refl)
-    (either S (not (vouches _ _ _ _ _ b)) (stops _ refl) (rises _ _ _ refl (not-above held (c .counter) t) refl))))
+    (either S (not (vouches _ _ _ _ _ b)) (stops _ refl) (rises _ _ _ refl (λ d q. not-above (counterIn held) (c .counter) t (d .counter) (ap counterIn q)) refl))))
 
 module _ (keys : NetworkKeys) (b : List ℕ) where
-  reacts : (w : Who) (k : Pair) → pairOf w ≡ some k → (held : Option ℕ) → Rising (λ n. n) opens (counterOf w) held (reaction keys b w held)
+  reacts : (w : Who) (k : Pair) → pairOf w ≡ some k → (held : Option Cell) → Rising (λ n. n .counter) opens (counterOf w) held (reaction keys b w held)
   unfolding reaction
   reacts (Told a) k e held = absurd (Option·none-ne-some k e)
   reacts (Claims c) k e held = rising keys c held b
@@ -72,13 +73,13 @@ stale keys lent two g good b c claims h holds low = record {
 -- what is held for k through any calls
 record Holds (keys : NetworkKeys) (lent : ℕ) (k : Pair) (h : ℕ) (d : Device) : Type 0 where
   good : Good keys lent (d .gateway)
-  least : AtLeast (λ (n : ℕ). n) opens h (heldCounter (d .gateway) k)
+  least : AtLeast (λ (n : Cell). n .counter) opens h (heldCell (d .gateway) k)
 
 keeps : (keys : NetworkKeys) (lent : ℕ) → keys .used ≤ 2 → (k : Pair) (h : ℕ) (d : Device) (f : Step) → Holds keys lent k h d → Holds keys lent k h (afterStep d f)
 unfolding machine
 keeps keys lent two k h d (opening b) p = record {
   good = stays-good keys lent two (d .gateway) b (p .good);
-  least = one-kept (λ n. n) opens (machine keys lent two) (λ b. counterOf (nwkWho keys b)) (λ b. reacts keys b (nwkWho keys b)) (d .gateway) (p .good) b k h (p .least);
+  least = one-kept (λ n. n .counter) opens (machine keys lent two) (λ b. counterOf (nwkWho keys b)) (λ b. reacts keys b (nwkWho keys b)) (d .gateway) (p .good) b k h (p .least);
 }
 keeps keys lent two k h d (securing plain out) p = record { good = p .good; least = p .least }
 keeps keys lent two k h d taking p = record { good = p .good; least = p .least }
@@ -99,9 +100,9 @@ not-again d frame between again c c′ first second same low done =
     let lent = length (d .gateway .rows) in
     let t = opens-good (d .gateway) frame done in
     let k = claimedPair c in
-    let held : AtLeast (λ (n : ℕ). n) opens (c .counter) (heldCounter (after (d .gateway) frame) k) =
-    rw (ap counterOf first) at (taken-held (λ n. n) opens (machine keys lent (t .1)) (λ b. counterOf (nwkWho keys b)) (λ b. reacts keys b (nwkWho keys b)) (d .gateway) (t .0) frame k (ap pairOf first) done) in
+    let held : AtLeast (λ (n : Cell). n .counter) opens (c .counter) (heldCell (after (d .gateway) frame) k) =
+    rw (ap counterOf first) at (taken-held (λ n. n .counter) opens (machine keys lent (t .1)) (λ b. counterOf (nwkWho keys b)) (λ b. reacts keys b (nwkWho keys b)) (d .gateway) (t .0) frame k (ap pairOf first) done) in
     let now = final-keeps afterStep (Holds keys lent k (c .counter)) (keeps keys lent (t .1) k (c .counter)) (afterStep d (opening frame)) between
     (record { good = stays-good keys lent (t .1) (d .gateway) frame (t .0); least = held }) in
     let later : Gateway = (final afterStep (afterStep d (opening frame)) between) .gateway in
-    stale keys lent (t .1) later (now .good) again c′ second (now .least .cell) (ap (heldCounter later) same ∙ now .least .is) (le-trans low (now .least .up))
+    stale keys lent (t .1) later (now .good) again c′ second (now .least .cell .counter) (ap (heldCounter later) same ∙ ap counterIn (now .least .is)) (le-trans low (now .least .up))

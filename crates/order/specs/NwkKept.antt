@@ -17,7 +17,7 @@ use Rattle.cells.specs.Rows.{Settled, find, settle}
 use Rattle.nib.specs.declared.outgoing.Outgoing.{Outgoing}
 use Rattle.nib.specs.declared.counters.CounterRow.{CounterRow}
 use Rattle.nib.specs.declared.keys.NetworkKeys.{NetworkKeys}
-use Rattle.nib.specs.Counters.{counterRows, capacity, pair}
+use Rattle.nib.specs.Counters.{Cell, counterIn, counterRows, capacity, pair}
 use Rattle.nib.specs.Pairs.{Pair}
 use Rattle.claims.specs.declared.Claim.{Claim}
 use Rattle.claims.specs.declared.Who.{Who}
@@ -25,19 +25,19 @@ use Rattle.claims.specs.declared.Who.the-variants.{Told, Claims}
 use Rattle.claims.specs.Claims.{numberOf, nwkWho}
 use Rattle.protection.specs.Heard.{Heard, refused, equals, below}
 use Rattle.protection.specs.Protection.{tagSize, vouches}
-use Rattle.nwk.specs.declared.state.Nwk.{Nwk}
-use Rattle.nwk.specs.OpenNwk.{nwkJudged, Opened, unchanged, activeAfter, nwkCommitted, nwkPlaced, nwkUnfit, openNwk}
-use Rattle.nwk.specs.SecureNwk.{Secured, secureNwk}
+use Rattle.nib.specs.declared.state.Nwk.{Nwk}
+use Rattle.judging.specs.OpenNwk.{nwkJudged, Opened, unchanged, activeAfter, nwkCommitted, nwkPlaced, nwkUnfit, openNwk}
+use Rattle.securing.specs.SecureNwk.{Secured, secureNwk}
 use Rattle.order.specs.NwkSent.{Sent, not-sent, sent, securing}
 use Rattle.order.specs.Kept.{NotDone, Tame, stops, opens, settle-kept, over-same}
 
 -- ---- opening NWK
 
-nwk-tame : (keys : NetworkKeys) (c : Claim) (held : Option ℕ) (b : List ℕ) → Tame b (nwkJudged keys c held b)
+nwk-tame : (keys : NetworkKeys) (c : Claim) (held : Option Cell) (b : List ℕ) → Tame b (nwkJudged keys c held b)
 unfolding nwkJudged
 nwk-tame keys c held b =
-    either (Tame b) (equals held (c .counter)) (stops _)
-    (either (Tame b) (below held (c .counter)) (stops _)
+    either (Tame b) (equals (counterIn held) (c .counter)) (stops _)
+    (either (Tame b) (below (counterIn held) (c .counter)) (stops _)
     (either (Tame b) (ltb (length b) (c .payload + tagSize)) (stops _)
     (either (Tame b) (not (vouches _ _ _ _ _ b)) (stops _) (opens _ _ _ _ _))))
 
@@ -66,7 +66,7 @@ module _ (s : Nwk) (rows : List CounterRow) (used : ℕ) (b : List ℕ) where
       k : Pair
       k = pair (numberOf (c .key)) (c .sender)
 
-      held : Option ℕ
+      held : Option Cell
       held = find counterRows (take used rows) k
 
       t : Settled Heard CounterRow

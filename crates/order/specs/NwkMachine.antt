@@ -14,18 +14,18 @@ use Rattle.cells.specs.RowLaws.{settle-fits}
 use Rattle.cells.specs.Machine.{Machine}
 use Rattle.nib.specs.declared.counters.CounterRow.{CounterRow}
 use Rattle.nib.specs.declared.keys.NetworkKeys.{NetworkKeys}
-use Rattle.nib.specs.Counters.{counterRows, capacity}
+use Rattle.nib.specs.Counters.{Cell, counterRows, capacity}
 use Rattle.nib.specs.CounterLaws.{over-used}
 use Rattle.nib.specs.Pairs.{Pair}
 use Rattle.claims.specs.declared.Who.{Who}
 use Rattle.claims.specs.declared.Who.the-variants.{Told, Claims}
 use Rattle.claims.specs.Claims.{nwkWho, pairOf}
 use Rattle.protection.specs.Heard.{Heard}
-use Rattle.nwk.specs.OpenNwk.{Opened, nwkJudged, nwkPlaced, nwkUnfit, openNwk}
+use Rattle.judging.specs.OpenNwk.{Opened, nwkJudged, nwkPlaced, nwkUnfit, openNwk}
 use Rattle.order.specs.Nwk.{Gateway, claimedPair, answer, after}
 
 -- what a frame does to its pair's row, by what its headers say and what is held
-unfoldable pub reaction : NetworkKeys → List ℕ → Who → Option ℕ → Reaction Heard ℕ
+unfoldable pub reaction : NetworkKeys → List ℕ → Who → Option Cell → Reaction Heard Cell
 reaction keys b (Told a) held = leave (record { answer = a; frame = b })
 reaction keys b (Claims c) held = nwkJudged keys c held b
 
@@ -97,7 +97,7 @@ module _ (keys : NetworkKeys) (lent : ℕ) (two : keys .used ≤ 2) where
       record { level = h .level; same-keys = h .same-keys; same-lent = rw (opening g b h) (s .0); fits = rw (opening g b h) (s .1) }
 
   -- THE MACHINE
-  unfoldable pub machine : Machine Gateway (List ℕ) Heard CounterRow Pair ℕ
+  unfoldable pub machine : Machine Gateway (List ℕ) Heard CounterRow Pair Cell
   machine = record {
     answer = answer;
     after = after;

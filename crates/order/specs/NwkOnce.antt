@@ -11,8 +11,8 @@ use Rattle.cells.specs.ListLaws.{not-true, which}
 use Rattle.cells.specs.Lists.{Distinct}
 use Rattle.nib.specs.declared.outgoing.Outgoing.{Outgoing}
 use Rattle.nib.specs.Sending.{AfterTaking, mayUse, taken}
-use Rattle.nwk.specs.declared.state.Nwk.{Nwk}
-use Rattle.nwk.specs.SecureNwk.{Secured}
+use Rattle.nib.specs.declared.state.Nwk.{Nwk}
+use Rattle.securing.specs.SecureNwk.{Secured}
 use Rattle.order.specs.Frames.{ifDone, ifTaken}
 use Rattle.frame.specs.NonceLaws.{counter-in}
 use Rattle.order.specs.Moves.{Moves, stays, rises}

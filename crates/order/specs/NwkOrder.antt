@@ -17,11 +17,11 @@ use Rattle.cells.specs.Still.{still-state, still-alike}
 use Rattle.nib.specs.declared.counters.CounterRow.{CounterRow}
 use Rattle.nib.specs.declared.keys.NetworkKeys.{NetworkKeys}
 use Rattle.nib.specs.Active.{next}
-use Rattle.nib.specs.Counters.{counterRows, capacity}
+use Rattle.nib.specs.Counters.{Cell, counterRows, capacity}
 use Rattle.nib.specs.Pairs.{Pair}
 use Rattle.claims.specs.Claims.{nwkWho, pairOf}
 use Rattle.protection.specs.Heard.{Heard}
-use Rattle.nwk.specs.OpenNwk.{nwkUnfit, openNwk}
+use Rattle.judging.specs.OpenNwk.{nwkUnfit, openNwk}
 use Rattle.order.specs.Frames.{leaves, says}
 use Rattle.order.specs.Nwk.{Gateway, numbers, answer, after, NwkDesk, opened, names, newPairs, Alike}
 use Rattle.order.specs.NwkMachine.{Good, rowsInUse, machine, taken-good}
@@ -36,7 +36,7 @@ module _ (d : NwkDesk) (p q : List ℕ) (level : d .state .nwk .level ≡ 5) (tw
   abbrev lent : ℕ
   lent = length (d .state .rows)
 
-  abbrev itsMachine : Machine Gateway (List ℕ) Heard CounterRow Pair ℕ
+  abbrev itsMachine : Machine Gateway (List ℕ) Heard CounterRow Pair Cell
   itsMachine = machine keys lent two
 
   good : Good keys lent (d .state)

@@ -14,8 +14,8 @@ use Rattle.header.specs.Nwk.{nwkControl, nwkKind, nwkLength, nwkOf}
 use Rattle.nib.specs.declared.outgoing.Outgoing.{Outgoing}
 use Rattle.nib.specs.Keys.{keyFound}
 use Rattle.nib.specs.Sending.{mayUse}
-use Rattle.nwk.specs.declared.state.Nwk.{Nwk}
-use Rattle.nwk.specs.SecureNwk.{Secured, notSecured, nwkAdded, nwkDone, nwkFramed, secureNwk}
+use Rattle.nib.specs.declared.state.Nwk.{Nwk}
+use Rattle.securing.specs.SecureNwk.{Secured, notSecured, nwkAdded, nwkDone, nwkFramed, secureNwk}
 
 module _ (s : Nwk) (o : Outgoing) (plain out : List ℕ) where
   pub data Sent : Secured → Type 0 where

@@ -5,7 +5,7 @@ use Prim.Native.Nat.{ℕ}
 use Rattle.frame.specs.Nonce.{nonceOf}
 use Rattle.nib.specs.declared.outgoing.Outgoing.{Outgoing}
 use Rattle.nib.specs.Sending.{taken}
-use Rattle.nwk.specs.SecureNwk.{Secured, secureNwk}
+use Rattle.securing.specs.SecureNwk.{Secured, secureNwk}
 use Rattle.order.specs.Frames.{ifDone, ifTaken}
 use Rattle.order.specs.Nwk.{Gateway, after}
 

@@ -13,9 +13,9 @@ use Rattle.answer.specs.Numbers.{number, told}
 use Rattle.nib.specs.declared.counters.CounterRow.{CounterRow}
 use Rattle.nib.specs.declared.outgoing.Outgoing.{Outgoing}
 use Rattle.aib.specs.declared.pairs.Pairs.{Pairs}
-use Rattle.nwk.specs.declared.state.Nwk.{Nwk}
-use Rattle.nwk.specs.OpenNwk.{openNwk}
-use Rattle.nwk.specs.SecureNwk.{secureNwk}
+use Rattle.nib.specs.declared.state.Nwk.{Nwk}
+use Rattle.judging.specs.OpenNwk.{openNwk}
+use Rattle.securing.specs.SecureNwk.{secureNwk}
 use Rattle.aps.specs.declared.state.Aps.{Aps}
 use Rattle.aps.specs.OpenAps.{openAps}
 use Rattle.aps.specs.SecureAps.{secureAps}

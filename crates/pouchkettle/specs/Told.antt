@@ -1,7 +1,7 @@
 -- What a call tells in numbers, of what it leaves.
 use Rattle.answer.specs.Numbers.{outcomeNumber, told}
 use Rattle.nib.specs.Counters.{After}
-use Rattle.nwk.specs.OpenNwk.{Opened}
+use Rattle.judging.specs.OpenNwk.{Opened}
 use Rattle.pouchkettle.specs.declared.network.ToldNwk.{ToldNwk}
 use Rattle.pouchkettle.specs.declared.network.ToldRows.{ToldRows}
 

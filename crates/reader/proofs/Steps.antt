@@ -15,16 +15,18 @@ use Rattle.answer.specs.declared.Told.{Told}
 use Rattle.answer.specs.Numbers.{told}
 use Rattle.cells.specs.Rows.{placeOf, hasRow}
 use Rattle.cells.specs.Search.{lent-row}
+use Rattle.nib.specs.declared.counters.CounterRow.{CounterRow}
 use Rattle.nib.specs.declared.keys.KeyFound.{KeyFound}
+use Rattle.nib.specs.declared.keys.NetworkKey.{NetworkKey}
 use Rattle.nib.specs.declared.keys.NetworkKeys.{NetworkKeys}
-use Rattle.nib.specs.Counters.{capacity, counterRows, pair, empty}
-use Rattle.nib.specs.CounterLaws.{at-le, recorded-new}
-use Rattle.nib.specs.Keys.{keyFound}
+use Rattle.nib.specs.Counters.{capacity, counting, counterRows, pair, rowOf, empty}
+use Rattle.nib.specs.CounterLaws.{at-le, placed-new}
+use Rattle.nib.specs.Keys.{keyFound, keyRow}
 use Rattle.claims.specs.Claims.{nwkWho}
 use Rattle.protection.specs.Heard.{refused}
 use Rattle.nwk_by_value.specs.declared.OpenedWith.{OpenedWith}
 use Rattle.nwk_by_value.specs.With.{openedWith}
-use Rattle.nwk.specs.OpenNwk.{Opened, openNwk, nwkPlaced, nwkUnfit, unchanged}
+use Rattle.judging.specs.OpenNwk.{Opened, openNwk, nwkPlaced, nwkUnfit, unchanged}
 use Rattle.fields.specs.declared.FieldRead.{FieldRead}
 use Rattle.fields.specs.Fields.{fieldAt}
 use Rattle.reader.specs.declared.reading.Fault.the-variants as fault
@@ -39,13 +41,13 @@ module _ (r : Reader) (body : List ℕ) (f : KeyFound) (size : length body ≡ 1
   unfolding keyField
   key-repeated e = rw (eq-eqb (length body) 17 size, lt-leb 2 (r .nwk .keys .used) room, ← is-found, e)
 
-  pub key-taken : f .found ≡ false → (key : List ℕ) (keys : NetworkKeys) → key ≡ take (length body - 1) (drop 1 body)
-      → keys ≡ withKey (r .nwk .keys) (record { number = getD body 0 0; key = key }) → quiet (withNwk r (withKeys (r .nwk) keys)) ≡ keyField r body
+  pub key-taken : f .found ≡ false → (key : List ℕ) (row : NetworkKey) (keys : NetworkKeys) → key ≡ take (length body - 1) (drop 1 body) → row ≡ keyRow (getD body 0 0) key
+      → keys ≡ withKey (r .nwk .keys) row → quiet (withNwk r (withKeys (r .nwk) keys)) ≡ keyField r body
   unfolding keyField
-  key-taken e key keys is-key is-keys =
+  key-taken e key row keys is-key is-row is-keys =
       let k : key ≡ drop 1 body = is-key ∙ take-all (length body - 1) (drop 1 body) (omega (arith, length-drop 1 body)) in
       (λ i. quiet (withNwk r (withKeys (r .nwk) (is-keys i))))
-      ∙ rw (eq-eqb (length body) 17 size, lt-leb 2 (r .nwk .keys .used) room, ← is-found, e, k)
+      ∙ rw (is-row, eq-eqb (length body) 17 size, lt-leb 2 (r .nwk .keys .used) room, ← is-found, e, k)
 
 -- ---- a counter row, by the place that the search yields
 
@@ -59,15 +61,15 @@ module _ (r : Reader) (body : List ℕ) (long : length (r .rows) ≡ 64) (n s pl
   row-repeated h = rw (eq-eqb (length body) 13 size, lt-leb 64 (r .used) room, known true (lt-ltb place (r .used) h))
 
   -- the new row goes after the last
-  pub row-taken : (c : ℕ) → r .used ≤ place → c ≡ field body 9 4
-      → quiet (record { nwk = r .nwk; rows = set (r .rows) (r .used) (record { number = n; sender = s; counter = c }); used = r .used + 1; at = r .at; fields = r .fields; frames = r .frames }) ≡ counterField r body
+  pub row-taken : (c : ℕ) (row : CounterRow) → r .used ≤ place → c ≡ field body 9 4 → row ≡ rowOf (pair n s) (counting c)
+      → quiet (record { nwk = r .nwk; rows = set (r .rows) (r .used) row; used = r .used + 1; at = r .at; fields = r .fields; frames = r .frames }) ≡ counterField r body
   unfolding counterField
-  row-taken c h is-counter =
+  row-taken c row h is-counter is-row =
       let fits : r .used ≤ capacity (length (r .rows)) = omega arith in
       let under = at-le (r .rows) (r .used) (pair n s) fits in
       let last : placeOf counterRows (take (r .used) (r .rows)) (pair n s) ≡ r .used = omega arith in
-      let w = recorded-new (r .rows) (r .used) (pair n s) fits c last (omega arith) in
-      rw (eq-eqb (length body) 13 size, lt-leb 64 (r .used) room, known false (le-ltb place (r .used) h), ← is-number, ← is-sender, ← is-counter, w, last)
+      let w = placed-new (r .rows) (r .used) (pair n s) fits (counting c) last (omega arith) in
+      rw (is-row, eq-eqb (length body) 13 size, lt-leb 64 (r .used) room, known false (le-ltb place (r .used) h), ← is-number, ← is-sender, ← is-counter, w, last)
 
 -- ---- a frame
 

@@ -9,7 +9,7 @@ use Rattle.control.specs.Control.{hasSender, hasNumber, identifierOf}
 use Rattle.header.specs.Nwk.{nwkOf, nwkLength, nwkFixed}
 use Rattle.nib.specs.Keys.{keyFound}
 use Rattle.claims.specs.Claims.{nwkWho}
-use Rattle.nwk.specs.OpenNwk.{openNwk, nwkPlaced}
+use Rattle.judging.specs.OpenNwk.{openNwk, nwkPlaced}
 use Rattle.fields.specs.Fields.{fieldAt}
 use Rattle.reader.specs.declared.reading.Event.the-variants.{Bad}
 use Rattle.reader.specs.declared.reading.Fault.the-variants.{UnknownTag}

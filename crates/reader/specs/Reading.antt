@@ -11,10 +11,10 @@ use Rattle.nib.specs.declared.counters.CounterRow.{CounterRow}
 use Rattle.nib.specs.declared.keys.NetworkKey.{NetworkKey}
 use Rattle.nib.specs.declared.keys.NetworkKeys.{NetworkKeys}
 use Rattle.nib.specs.Counters.{After, counterRows, pair, recorded, empty}
-use Rattle.nib.specs.Keys.{keyFound, none-found}
+use Rattle.nib.specs.Keys.{keyFound, keyRow, none-found}
 use Rattle.nib.specs.Pairs.{Pair}
-use Rattle.nwk.specs.declared.state.Nwk.{Nwk}
-use Rattle.nwk.specs.OpenNwk.{Opened, openNwk}
+use Rattle.nib.specs.declared.state.Nwk.{Nwk}
+use Rattle.judging.specs.OpenNwk.{Opened, openNwk}
 use Rattle.fields.specs.declared.FieldRead.{FieldRead}
 use Rattle.fields.specs.declared.FieldRead.the-variants as fields
 use Rattle.fields.specs.Fields.{fieldAt}
@@ -68,7 +68,7 @@ keyField r body =
     cond (not (eqb (length body) 17)) (bad r fault.WrongLength)
     (cond (leb 2 (r .nwk .keys .used)) (bad r fault.ThirdKey)
     (cond ((keyFound (r .nwk .keys) (getD body 0 0)) .found) (bad r fault.RepeatedKey)
-    (quiet (withNwk r (withKeys (r .nwk) (withKey (r .nwk .keys) (record { number = getD body 0 0; key = drop 1 body })))))))
+    (quiet (withNwk r (withKeys (r .nwk) (withKey (r .nwk .keys) (keyRow (getD body 0 0) (drop 1 body))))))))
 
 -- ---- 0x02: a counter row (number, sender, counter). Wrong length, surplus or repeated row: bad
 

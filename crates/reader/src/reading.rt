@@ -12,9 +12,8 @@ use answer::Told;
 use fields::FieldRead;
 use fields::field_at;
 use nib::CounterRow;
-use nib::NetworkKey;
 use nib::NetworkKeys;
-use nwk::Nwk;
+use nib::Nwk;
 
 // The gateway, the place in the input, and how many fields were read and frames presented.
 pub struct Reader {
@@ -67,15 +66,8 @@ pub struct Step {
 pub fn start() -> Reader
     ensures { λ r. ⌜ r ≡ started ⌝ }
 {
-    let none = NetworkKey {
-        number: 0,
-        key: [0; 16],
-    };
-    let empty = CounterRow {
-        number: 0,
-        sender: 0,
-        counter: 0,
-    };
+    let none = nib::key_row(0, [0; 16]);
+    let empty = nib::empty_row();
     Reader {
         nwk: Nwk {
             level: 5,
@@ -132,7 +124,7 @@ fn key_field(reader: Reader, body: &[u8]) -> Step
         return bad(reader, Fault::RepeatedKey);
     }
     let key = key_in(&body[1..]);
-    let more = with_key(keys, NetworkKey { number, key });
+    let more = with_key(keys, nib::key_row(number, key));
     nwk.keys = more;
     let mut next = reader;
     next.nwk = nwk;
@@ -157,11 +149,7 @@ fn counter_field(reader: Reader, body: &[u8]) -> Step
     if repeated(rows, used, number, sender) < used {
         return bad(reader, Fault::RepeatedRow);
     }
-    rows[used] = CounterRow {
-        number,
-        sender,
-        counter,
-    };
+    rows[used] = nib::recorded_row(number, sender, counter);
     let mut next = reader;
     next.rows = rows;
     next.used = used + 1;

@@ -28,10 +28,7 @@ pub(crate) struct Rows {
 }
 
 fn key_in(s: &[u8]) -> NetworkKey {
-    NetworkKey {
-        number: octet(s, 0),
-        key: sixteen(part(s, 1, 17)),
-    }
+    nib::key_row(octet(s, 0), sixteen(part(s, 1, 17)))
 }
 
 pub(crate) fn keys_of(case: Case, body: &[u8]) -> NetworkKeys {
@@ -45,11 +42,7 @@ pub(crate) fn keys_of(case: Case, body: &[u8]) -> NetworkKeys {
 }
 
 fn row_in(s: &[u8]) -> CounterRow {
-    CounterRow {
-        number: octet(s, 0),
-        sender: eight(s, 1),
-        counter: four(s, 9),
-    }
+    nib::recorded_row(octet(s, 0), eight(s, 1), four(s, 9))
 }
 
 pub(crate) fn rows_of(case: Case, body: &[u8]) -> Rows {

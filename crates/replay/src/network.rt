@@ -20,8 +20,7 @@ use crate::telling::text;
 use answer::Answer;
 use answer::Outcome;
 use by_value::RecordedWith;
-use nib::Outgoing;
-use nwk::Nwk;
+use nib::Nwk;
 use nwk_by_value::OpenedWith;
 
 fn nwk_of(case: Case, body: &[u8]) -> Nwk {
@@ -80,9 +79,7 @@ pub(crate) fn secure(case: Case, body: &[u8], space: &mut [u8]) {
     }
     let secured = nwk_by_value::secure_with(
         nwk_of(case, body),
-        Outgoing {
-            next: case.outgoing,
-        },
+        nib::sending(case.outgoing),
         first_in(case, body),
         &mut space[..room],
     );
@@ -95,9 +92,7 @@ pub(crate) fn secure(case: Case, body: &[u8], space: &mut [u8]) {
 }
 
 pub(crate) fn take(case: Case) {
-    let taken = by_value::take_with(Outgoing {
-        next: case.outgoing,
-    });
+    let taken = by_value::take_with(nib::sending(case.outgoing));
     let outgoing = taken.outgoing;
     let outcome = taken.outcome;
     tell_outcome(case.show, outcome);
@@ -108,9 +103,7 @@ pub(crate) fn take(case: Case) {
 }
 
 pub(crate) fn reset(case: Case) {
-    let outgoing = nib::reset(Outgoing {
-        next: case.outgoing,
-    });
+    let outgoing = nib::reset(nib::sending(case.outgoing));
     tell_answer(case.show, 0, 0, 0);
     tell_number(case.show, outgoing.next as u64);
     tell_none(case.show, ROWS);

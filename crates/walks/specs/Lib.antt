@@ -3,13 +3,12 @@ pub mod Tests
 pub mod Turn
 pub mod Locals
 pub mod Calls
-pub mod Conclude
+pub mod Direct
 pub mod Slices
 pub mod Again
 pub mod Shared
 pub mod LocalArray
 pub mod Lends
-pub mod LocalValue
 pub mod ArrayField
 pub mod Operands
 pub mod Walk

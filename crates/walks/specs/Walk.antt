@@ -53,7 +53,7 @@ pub use denote.Triple.Entry.{onEntry}
 pub use denote.Triple.Spec.{Meets, tripleOf}
 pub use denote.Triple.Statement.{Contract, Triple}
 pub use denote.Triple.Table.{cited, entered}
-pub use denote.Triple.Walked.{AllGo, Stays, Walks, ends-at, goes-none, goes-none-slice, goes-ref, goes-slice, needs, says, stay-none, stay-none-slice, stay-ref, stay-slice, walk-meets, walkOf, walked}
+pub use denote.Triple.Walked.{needs, says}
 -- these a walk unfolds
 unfoldable pub use contract.Running.{tablesOf}
 unfoldable pub use prog.Wp.{afterTurn}
@@ -61,7 +61,6 @@ unfoldable pub use prog.Wp.{afterTurn}
 pub use Rattle.walks.specs.Tests.{holds, fails, holds-not, not-equal, not-at}
 pub use Rattle.walks.specs.Turn.{after, Nearer, nearer-wf}
 pub use Rattle.walks.specs.Locals.{empty, full, Local, stack, places, leave, number}
-pub use Rattle.walks.specs.Calls.{answers, gives}
-pub use Rattle.walks.specs.Conclude.{concludes}
+pub use Rattle.walks.specs.Calls.{answers, gives, covered}
 pub use Rattle.walks.specs.Slices.{opens-own, closes-own, looks-own, shuts-own}
 pub use Rattle.walks.specs.Lends.{on-shared, on-again, on-ref, off-shared, off-again, off-ref, token, learns}

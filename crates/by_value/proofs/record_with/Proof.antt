@@ -1,137 +1,17 @@
--- `by_value::record_with` meets its contract: a walk of its code. A local array of rows is lent to `record` as a slice, for a lifetime that is
--- made for the call, and comes back. Assumes nothing.
-use denote.Struct.Laws as LL
-use denote.Triple.Walked.{stay-dropped, goes-dropped}
-use mathlib.Core.Option.{Option, none, some as that}
-use Rattle.walks.specs.Walk.{ !, AllGo, Atoms, Calls, Contract, Env, Fml, FmC, Fun, GName, Given, Heap, Is, List, Local, Loops, Memory, MutSlice, RefT, Routine, SProp, Sq, Stays, Triple, URA, Val, Walks, WpFn, [], _$_, _*_, _-_, _<_, _^_, _∵_, _≡_, _∷_, addr, agg, alloc0, alloc1, and-then, assigns, atRet, cited, concludes, done, drop, emp, ends-at, ent, enter, erased, feqL, fjoin, flft, fmOf, frame, from, fsplit, fst∗, ftrue, fullShare, givenOf, id⊢, init, join, land, learns, leave, lit, lit<, load, look, move, mut, named, no-more, nothing, number, of-opd, onEntry, owned, owns, params1, pass0, pass1, places, plain, pointee, prop, qed, raw, refl, returns, runs, says, sliceTy, sliceVal, stack, stop, suc, suffices, tables, tablesOf, token, tripleOf, tyArray, tyInt, tyRef, u32, u64, u8, uint-tells, uint-vals, use2, usize, via, vint, vptr, w32, w64, w8, walkOf, walked, yes, ‵, ℕ, ⋆}
-use Rattle.walks.specs.LocalArray.{on-local, off-local}
-use Rattle.walks.specs.Operands.{operand}
-use Rattle.nib.specs.Counters.{left, pair, recorded}
+-- `by_value::record_with` meets its contract: it is a change of the table that writes a row. Assumes nothing.
+use mathlib.Core.Bool.{true}
+use mathlib.Core.Path.{ap, _∙_}
+use borrow.Author.Needs.{needs}
+use Rattle.nib.specs.Counters.{settled}
 use Rattle.nib.specs.declared.counters.CounterRow.{CounterRow}
-use Rattle.nib.specs.declared.counters.Recorded.{Recorded}
-use Rattle.nib.proofs.counters.CounterRow as R
-use Rattle.nib.proofs.counters.CounterRow.Laws as R′
-use Rattle.nib.proofs.counters.Recorded as O
-use Rattle.nib.proofs.counters.Recorded.Laws as O′
-use Rattle.nib.proofs.CounterArray as array
-use Rattle.counter_rows.proofs.record as callee
-use Rattle.counter_rows.proofs.record.Symbol as callee-def
-use Rattle.counter_rows.proofs.record.Met as callee-thm
-use Rattle.by_value.specs.With.{leftWith}
-use Rattle.by_value.proofs.RecordedWith as S
-use Rattle.by_value.proofs.RecordedWith.Laws as S′
-use Rattle.by_value.proofs.Handed.{handed, handed-is, val}
-use Rattle.by_value.proofs.record_with.Key.{name}
-use Rattle.by_value.proofs.record_with as f
-use Rattle.by_value.proofs.record_with.Statement as stated
-use Rattle.by_value.proofs.record_with.Code as code
-use Rattle.by_value.proofs.record_with.Code.Mir as mir′
+use Rattle.by_value.proofs.record_with.Statement.{statement}
+use Rattle.by_value.proofs.record_with.Tie as tie
 
-abbrev stayed : Stays (f.ended .signature .params) (f.ended .kept)
-stayed = (stay-dropped (plain (λ _. array.Rows)) yes, (stay-dropped (plain (λ _. usize)) yes, (stay-dropped (plain (λ _. u8)) yes, (stay-dropped (plain (λ _. u64)) yes, (stay-dropped (plain (λ _. u32)) yes, tt)))))
+returns : tie.Need-returns
+unfolding settled
+returns c =
+    let a = c .before .before .args in
+    c .settle-with .ensures ∙ ap (λ (r : CounterRow). settled (a .rows) (a .used) (record { writes = true; row = r })) (c .before .recorded-row .ensures)
 
-module _ {M : Type 1} (𝓤 : URA M) (H : Heap 𝓤) (A : Atoms 𝓤) (mem : Memory → SProp 𝓤) (run : Routine → Fun 𝓤) where
-  -- the contract that the proof cites
-  abbrev Record : Contract 𝓤
-  Record = tripleOf 𝓤 H A callee.signature (callee.spec 𝓤 H A mem run)
-
-module _ {M : Type 1} (𝓤 : URA M) (H : Heap 𝓤) (A : Atoms 𝓤) (W : Given 𝓤 H A) (mem : Memory → SProp 𝓤) (run : Routine → Fun 𝓤) (ys : List CounterRow) (used n s c : ℕ)
-    (ys-is : Is array.Rows ys (array.vals ys)) (used-fits : used < 2 ^ 64) (n-fits : n < 2 ^ 8) (s-fits : s < 2 ^ 64) (c-fits : c < 2 ^ 32) where
-  abbrev x : List CounterRow × (ℕ × (ℕ × (ℕ × (ℕ × Unit {0}))))
-  x = (ys, (used, (n, (s, (c, tt)))))
-
-  abbrev at : List Val × (List Val × (List Val × (List Val × (List Val × Unit {0}))))
-  at = (array.vals ys, (vint w64 used ∷ [], (vint w8 n ∷ [], (vint w64 s ∷ [], (vint w32 c ∷ [], tt)))))
-
-  abbrev Post : Val → SProp 𝓤
-  Post = walkOf 𝓤 H A f.ended stayed (f.clauses 𝓤 H A mem run) .post ((tt, tt, tt, x, at), tt)
-
-  exits : (r : Recorded) (zs : List CounterRow) → Is S.the-row (handed r zs) (val r zs ∷ []) → leftWith (handed r zs) ≡ recorded ys used (pair n s) c → Sq W [] (prop (Post (val r zs)))
-  exits r zs is said =
-      suffices ! _ (ends-at 𝓤 H A f.ended stayed (f.clauses 𝓤 H A mem run) W ((tt, tt, tt, x, at), tt) (val r zs) (handed r zs) (tt, (tt, (tt, (tt, (tt, tt))))) (tt, (tt, (tt, (tt, (tt, tt)))))) $ says ! said $
-      nothing ! $ frame ! $ nothing ! $ nothing ! $ fjoin ! $ nothing ! $ fjoin ! $ nothing ! $ fjoin ! $ nothing ! $ fjoin ! $ nothing ! $ fjoin ! $ frame ! $ owned ! S.the-row (Is S.the-row) (LL.makes S.the-type S′.the-plain 𝓤 H A) (handed r zs) _ is $ done !
-
-  -- the call: the local array at l, lent for ν under the name δ
-  module _ (l ν : ℕ) (δ : GName) where
-    abbrev the : RefT (List CounterRow)
-    the = record { ptr = (l, 0); name = δ; now = ys }
-
-    abbrev to-record : Record 𝓤 H A mem run .Ghost
-    to-record = (((ν ∷ [], tt), (fullShare, tt), tt, (the, (used, (n, (s, (c, tt))))), (sliceVal (l, 0) 64 ∷ [], (vint w64 used ∷ [], (vint w8 n ∷ [], (vint w64 s ∷ [], (vint w32 c ∷ [], tt)))))), tt)
-
-    abbrev Lent : Fml
-    Lent = MutSlice (named 0) (ν ∷ []) R.the-row .own the (sliceVal (l, 0) 64 ∷ [])
-
-    goes-record : ent 𝓤 (⋆ 𝓤 H A (‵ (flft (ν ∷ []) fullShare) ∷ ‵ Lent ∷ [])) (Record 𝓤 H A mem run .pre to-record)
-    goes-record =
-        qed W (‵ (flft (ν ∷ []) fullShare) ∷ ‵ Lent ∷ []) ∵ nothing ! $ move ! (1 ∷ 0 ∷ []) $ join ! $ nothing ! $ number ! w32 c c-fits $ fjoin ! $ number ! w64 s s-fits $ fjoin ! $ number ! w8 n n-fits $ fjoin ! $ number ! w64 used used-fits $ fjoin ! $
-        move ! (2 ∷ 0 ∷ []) $ fjoin ! $ move ! (1 ∷ 0 ∷ []) $ join ! $ frame ! $ done !
-
-  module _ (C : Calls 𝓤 H) (Λ : Loops 𝓤 H) (fm : FmC 𝓤 H (W .laws) C) (known : Triple 𝓤 (C callee-def.name) (Record 𝓤 H A mem run)) where
-    module _ (l₀ l₁ l₂ l₃ l₄ l₅ l₆ l₇ l₈ l₉ l₁₀ : ℕ) where
-      -- the locals, with what _0 and those from _6 on hold
-      abbrev Locals : Option Val → Option Val → Option Val → Option Val → Option Val → Option Val → List Local
-      Locals v₀ v₆ v₇ v₈ v₉ v₁₀ =
-          (S′.mir, l₀, v₀) ∷ (array.ty, l₁, that (array.val ys)) ∷ (tyInt w64, l₂, that (vint w64 used)) ∷ (tyInt w8, l₃, that (vint w8 n)) ∷ (tyInt w64, l₄, that (vint w64 s)) ∷ (tyInt w32, l₅, that (vint w32 c)) ∷ (array.ty, l₆, v₆) ∷ (O′.mir, l₇, v₇)
-          ∷ (tyRef erased mut (tyArray (pointee (R.the-row .written)) 64), l₈, v₈) ∷ (sliceTy (tyRef erased mut (pointee (R.the-row .written))), l₉, v₉) ∷ (array.ty, l₁₀, v₁₀) ∷ []
-
-      abbrev Start : List Local
-      Start = Locals none none none none none none
-
-      -- what they hold at the end
-      abbrev End : Recorded → List CounterRow → List Local
-      End r zs = Locals none (that (array.val zs)) (that (LL.val O.the-type O′.the-laws r)) (that (vptr l₆ 0)) (that (sliceVal (l₆, 0) 64)) (that (array.val zs))
-
-      abbrev En : Env 𝓤 H
-      En = places Start
-
-      -- where the context has local k, and where it has a parameter while the array is lent
-      abbrev local : ℕ → ℕ
-      local k = 2 * (10 - k)
-
-      abbrev param : ℕ → ℕ
-      param k = suc (local k)
-
-      body : Sq W (stack Start []) (runs C Λ En mir′.t-1 (atRet En Post))
-      body =
-          assigns ! (of-opd ! (load ! (from ! (stop !)) (look ! 18 refl))) (from ! (stop !)) (init ! 8 refl (array.typed 𝓤 H A W ys ys-is)) $
-          assigns ! (addr ! (from ! (stop !))) (from ! (stop !)) (init ! 4 refl (tt, tt)) $
-          assigns ! (agg ! (and-then ! (load ! (from ! (stop !)) (look ! 4 refl)) (and-then ! (lit ! tt) (no-more !)))) (from ! (stop !)) (init ! 2 refl (tt, (tt, (record { fits = lit< tt }, tt)))) $
-          -- the local array is lent
-          move ! (8 ∷ []) $ on-local ! R.the-type R′.the-laws R′.the-plain 64 l₆ ys ys-is (named 0) array.room (λ ν δ.
-          use2 W (raw (Record 𝓤 H A mem run .pre (to-record l₆ ν δ))) (goes-record l₆ ν δ) $
-          learns ! fm callee.ended (callee.clauses 𝓤 H A mem run) known (to-record l₆ ν δ)
-          (and-then ! (load ! (from ! (stop !)) (look ! 4 refl)) (and-then ! (operand ! param Start refl refl) (and-then ! (operand ! param Start refl refl) (and-then ! (operand ! param Start refl refl) (and-then ! (operand ! param Start refl refl) (no-more !))))))
-          (LL.vals O.the-type O′.the-laws) (LL.tells O.the-type O′.the-laws) (λ r ws. left r (ws .0) ≡ recorded ys used (pair n s) c) (λ r ws. id⊢ 𝓤 _) (λ r ws r-is is-left.
-          let zs : List CounterRow = ws .0 in
-          land ! (from ! (stop !)) (init ! 9 refl (LL.lawful O.the-type O′.the-laws 𝓤 H A W .typed r _ r-is .0)) $ token ! (ν ∷ []) fullShare $
-          -- [the token; what is left; what the lender keeps; _10; …]
-          move ! (1 ∷ []) $ fsplit ! $ fsplit ! $ move ! (1 ∷ []) $ feqL ! (λ same. move ! (1 ∷ []) $ drop ! $ move ! (1 ∷ 2 ∷ 0 ∷ []) $
-          off-local ! R.the-type R′.the-laws R′.the-plain 64 l₆ ys ys-is ν δ zs same (λ zs-is. move ! (1 ∷ 2 ∷ 3 ∷ 4 ∷ 5 ∷ 6 ∷ 7 ∷ 8 ∷ []) $
-          let is = handed-is r zs r-is zs-is in
-          assigns ! (of-opd ! (load ! (from ! (stop !)) (look ! 8 refl))) (from ! (stop !)) (init ! 0 refl (array.typed 𝓤 H A W zs zs-is)) $
-          assigns ! (agg ! (and-then ! (operand ! local (End r zs) refl refl) (and-then ! (operand ! local (End r zs) refl refl) (and-then ! (operand ! local (End r zs) refl refl) (no-more !))))) (from ! (stop !)) (init ! 20 refl (LL.lawful S.the-type S′.the-laws 𝓤 H A W .typed (handed r zs) _ is .0)) $
-          returns ! (look ! 20 refl) $ leave ! [] (Locals (that _) (that _) (that _) (that _) (that _) (that _)) $ exits r zs is is-left))))
-
-    walk : ent 𝓤 (onEntry 𝓤 H A f.signature tt tt x at) (WpFn 𝓤 H C Λ code.function (array.val ys ∷ vint w64 used ∷ vint w8 n ∷ vint w64 s ∷ vint w32 c ∷ []) Post)
-    walk =
-        qed W (‵ ftrue ∷ ‵ (owns (array.Rows ∷ usize ∷ u8 ∷ u64 ∷ u32 ∷ []) x at) ∷ []) ∵ drop ! $ drop ! $ enter ! C Λ code.function (array.val ys ∷ vint w64 used ∷ vint w8 n ∷ vint w64 s ∷ vint w32 c ∷ []) _ $
-        alloc1 ! (λ l₀. alloc1 ! (λ l₁. alloc1 ! (λ l₂. alloc1 ! (λ l₃. alloc1 ! (λ l₄. alloc1 ! (λ l₅. alloc1 ! (λ l₆. alloc1 ! (λ l₇. alloc1 ! (λ l₈. alloc1 ! (λ l₉. alloc1 ! (λ l₁₀. alloc0 ! $ params1 ! $
-        pass1 ! (init ! 18 refl (array.typed 𝓤 H A W ys ys-is)) $ pass1 ! (init ! 16 refl (tt, record { fits = used-fits })) $ pass1 ! (init ! 14 refl (tt, record { fits = n-fits })) $ pass1 ! (init ! 12 refl (tt, record { fits = s-fits })) $ pass1 ! (init ! 10 refl (tt, record { fits = c-fits })) $ pass0 ! $
-        body l₀ l₁ l₂ l₃ l₄ l₅ l₆ l₇ l₈ l₉ l₁₀)))))))))))
-
-module _ {M : Type 1} (𝓤 : URA M) (H : Heap 𝓤) (A : Atoms 𝓤) (W : Given 𝓤 H A) (mem : Memory → SProp 𝓤) (run : Routine → Fun 𝓤) where
-  goes : AllGo 𝓤 H A W 0 (f.signature .params) (f.ended .kept) stayed
-  goes = (goes-dropped 𝓤 H A W 0 (plain (λ _. array.Rows)) yes (λ κs x f. refl), (goes-dropped 𝓤 H A W 0 (plain (λ _. usize)) yes (λ κs x f. refl), (goes-dropped 𝓤 H A W 0 (plain (λ _. u8)) yes (λ κs x f. refl), (goes-dropped 𝓤 H A W 0 (plain (λ _. u64)) yes (λ κs x f. refl), (goes-dropped 𝓤 H A W 0 (plain (λ _. u32)) yes (λ κs x f. refl), tt)))))
-
-  walks : (C : Calls 𝓤 H) (Λ : Loops 𝓤 H) → FmC 𝓤 H (W .laws) C → Triple 𝓤 (C callee-def.name) (Record 𝓤 H A mem run) → Walks 𝓤 H A f.ended stayed (WpFn 𝓤 H C Λ code.function) (f.clauses 𝓤 H A mem run)
-  walks C Λ fm known = walked 𝓤 H A f.ended stayed (f.clauses 𝓤 H A mem run) (WpFn 𝓤 H C Λ code.function) (λ κs. (array.vals, (uint-vals w64, (uint-vals w8, (uint-vals w64, (uint-vals w32, tt)))))) (λ κs. (array.tells, (uint-tells w64, (uint-tells w8, (uint-tells w64, (uint-tells w32, tt))))))
-      (λ κs qs bounds a g are. via 𝓤 _ (fst∗ 𝓤 _ (emp 𝓤)) (walk 𝓤 H A W mem run (a .0) (a .1 .0) (a .1 .1 .0) (a .1 .1 .1 .0) (a .1 .1 .1 .1 .0) (are .0) (are .1 .0 .1) (are .1 .1 .0 .1) (are .1 .1 .1 .0 .1) (are .1 .1 .1 .1 .0 .1) C Λ fm known))
-
-pub record-with-spec : {M : Type 1} → stated.statement M
-unfolding code.routine tablesOf
-record-with-spec 𝓤 H 𝓜 𝓖 𝓡 =
-    let W = givenOf 𝓤 H 𝓜 𝓖 in
-    concludes 𝓤 H 𝓜 𝓖 𝓡 f.ended stayed (goes 𝓤 H (𝓖 .A) W (𝓜 .mem) (𝓡 .run)) (f.clauses 𝓤 H (𝓖 .A) (𝓜 .mem) (𝓡 .run)) code.env name code.function (code.unfolded 𝓤 H 𝓜 𝓡)
-    (walks 𝓤 H (𝓖 .A) W (𝓜 .mem) (𝓡 .run) (tables 𝓤 H 𝓜 𝓡 code.env .C) (tables 𝓤 H 𝓜 𝓡 code.env .Λ) (fmOf 𝓤 H (W .laws) (tablesOf 𝓤 H 𝓜 (tables 𝓤 H 𝓜 𝓡 code.env)))
-    (cited 𝓤 H (Record 𝓤 H (𝓖 .A) (𝓜 .mem) (𝓡 .run)) 𝓜 𝓡 code.env callee-def.name callee-def.routine code.calls-counter-rows·record (callee-thm.met 𝓤 H 𝓜 𝓖 𝓡)))
+pub record-with-spec : {M : Type 1} → statement M
+record-with-spec = tie.close (tie.spec (λ c κs. search needs) (λ c κs. search needs) returns)

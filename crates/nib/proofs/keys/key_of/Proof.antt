@@ -2,10 +2,11 @@
 use Prim.Native.Nat.{ℕ, _≤_, min}
 use native.Mathlib.Omega.{arith}
 use borrow.Author.Needs.{needs}
-use mathlib.Core.Bool.{true}
+use mathlib.Core.Bool.{true, false}
 use mathlib.Core.Path.{_≡_, sym, ap, _∙_}
 use lib.ListN.{take, getD}
 use Rattle.cells.specs.Rows.{placeOf}
+use Rattle.nib.specs.declared.keys.NetworkKey.{NetworkKey}
 use Rattle.nib.specs.Keys.{keyRows}
 use Rattle.nib.specs.KeyLaws.{place, place-le, not-found, found}
 use Rattle.nib.proofs.Rows.{two, past}
@@ -27,8 +28,10 @@ element-copy-out-row c = omega (arith, le (c .before))
 
 returns : tie.Need-returns
 returns c =
-    let x = c .before .before .before .args in
-    not-found (x .t1) (x .number) past (two (c .before .before .before .args .t1) _ (c .before .before .before .good .0)) (sym (is-place (c .before)) ∙ c .if1 .taken ∙ c .before .before .in-use .ensures)
+    let p = c .before .before in
+    let s = p .before .before in
+    ap (λ (r : NetworkKey). record { found = false; row = r }) (c .key-row .ensures)
+    ∙ not-found (s .args .t1) (s .args .number) past (two (s .args .t1) _ (s .good .0)) (sym (is-place p) ∙ c .before .if1 .taken ∙ p .before .in-use .ensures)
 
 returns-2 : tie.Need-returns-2
 returns-2 c =
@@ -38,4 +41,4 @@ returns-2 c =
     ∙ found (x .t1) (x .number) past (two (c .before .before .before .before .args .t1) _ (c .before .before .before .before .good .0)) (omega (arith, e, le (c .before .before)))
 
 pub key-of-spec : {M : Type 1} → statement M
-key-of-spec = tie.close (tie.spec (λ c κs. search needs) (λ c κs. search needs) mul-row element-copy-out-row returns returns-2)
+key-of-spec = tie.close (tie.spec (λ c κs. search needs) (λ c κs. search needs) (λ c κs. search needs) mul-row element-copy-out-row returns returns-2)

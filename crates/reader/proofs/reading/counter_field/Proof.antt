@@ -40,12 +40,13 @@ returns-3 c =
 
 returns-4 : tie.Need-returns-4
 returns-4 c =
-    let looked = c .before .before in
+    let made = c .before in
+    let looked = made .before .before in
     let read = looked .before .before in
     let start = read .before .before .before .before .before .before in
     c .quiet .ensures
     ∙ row-taken (start .args .reader) (start .args .body .now) (long (start .args .reader) _ (start .good .0)) _ _ _ (read .before .before .before .before .if1 .left) (read .before .before .before .if2 .left) refl (read .before .number-at .ensures .0)
-    (looked .repeated .ensures) _ (c .before .if3 .left) (read .number-at2 .ensures .0)
+    (looked .repeated .ensures) _ _ (made .before .if3 .left) (read .number-at2 .ensures .0) (made .recorded-row .ensures)
 
 pub counter-field-spec : {M : Type 1} → statement M
 counter-field-spec =
@@ -62,6 +63,7 @@ counter-field-spec =
     (λ c κs. search needs)
     (λ c κs. search needs)
     returns-3
+    (λ c κs. search needs)
     (λ c. search needs)
     (λ c. search needs)
     (λ c. search needs)

@@ -27,12 +27,13 @@ returns-3 c =
 
 returns-4 : tie.Need-returns-4
 returns-4 c =
-    let read = c .before .before in
+    let made = c .before .before in
+    let read = made .before in
     let looked = read .before .before .before in
     let start = looked .before .before .before .before .before .before .before .before in
     c .quiet .ensures
     ∙ key-taken (start .args .reader) (start .args .body .now) (looked .key-of .result) (looked .before .before .before .before .before .before .if1 .left) (looked .before .before .if2 .left) (looked .key-of .ensures) (read .before .before .if3 .left)
-    (read .key-in .result) (c .before .with-key .result) (read .key-in .ensures) (c .before .with-key .ensures)
+    (read .key-in .result) _ (c .before .with-key .result) (read .key-in .ensures) (made .key-row .ensures) (c .before .with-key .ensures)
 
 pub key-field-spec : {M : Type 1} → statement M
 key-field-spec =
@@ -49,6 +50,7 @@ key-field-spec =
     (λ c. search needs)
     (λ c. search needs)
     (λ c. search needs)
+    (λ c κs. search needs)
     (λ c κs. search needs)
     (λ c κs. search needs)
     (λ c κs. search needs)

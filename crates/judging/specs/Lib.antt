@@ -1,0 +1,2 @@
+pub mod OpenNwk
+pub mod Halves

@@ -1,0 +1,2 @@
+pub mod SecureNwk
+pub mod Ready
