@@ -1,6 +1,6 @@
 #!/usr/bin/env python3
-"""Writes crates/vectors/stdin and crates/vectors/stdout: public vectors, and what they should give; crates/opening/stdin, the
-frame whose opening bench/opening counts; and crates/firmware_hash/stdin and stdout, a file of 8,193 bytes and its hash.
+"""Writes crates/vectors/stdin and crates/vectors/stdout: public vectors, and what they should give; crates/ccm_bench/stdin, the
+frame whose opening bench/ccm counts; and crates/firmware_hash/stdin and stdout, a file of 8,193 bytes and its hash.
 
     python3 tools/vectors.py            write the files
     python3 tools/vectors.py --check    say whether they are as this program would write them
@@ -217,7 +217,7 @@ def zigbee_vectors():
 
 
 def opening_input(rounds, each):
-    """What crates/opening reads: a frame of 22 associated bytes, 34 of payload and a tag of 4."""
+    """What crates/ccm_bench reads: a frame of 22 associated bytes, 34 of payload and a tag of 4."""
     key, nonce, data, text = run(0, 15), run(16, 28), run(0, 21), run(100, 133)
     return rounds.to_bytes(2, 'little') + bytes([each, len(data), len(text), 4]) + key + nonce + data + sealed(key, nonce, data, text, 4)
 

@@ -1,7 +1,7 @@
 -- The answer numbers: document 01's, with the finer ones of request W-201 (document 02).
 use Prim.Native.Nat.{ℕ}
 use Rattle.answer.specs.declared.Refusal.{Refusal}
-use Rattle.answer.specs.declared.Refusal.the-variants.{Cut, CounterSpent, SenderAbsent, KeyNotAllowed, CounterRepeated, CounterBehind, PairCounterRepeated, PairCounterBehind, NoNetworkKey, NoPair, TableFull, DeviceAbsent, WrongTag, CounterExhausted, Unsupported, NoRoom}
+use Rattle.answer.specs.declared.Refusal.the-variants.{Cut, CounterSpent, SenderAbsent, KeyNotAllowed, CounterRepeated, CounterBehind, NoNetworkKey, NoPair, TableFull, DeviceAbsent, WrongTag, CounterExhausted, Unsupported, NoRoom}
 use Rattle.answer.specs.declared.Outcome.{Outcome}
 use Rattle.answer.specs.declared.Outcome.the-variants as outcome
 use Rattle.answer.specs.declared.Answer.{Answer}
@@ -16,8 +16,6 @@ number SenderAbsent = 31
 number KeyNotAllowed = 32
 number CounterRepeated = 33
 number CounterBehind = 34
-number PairCounterRepeated = 33
-number PairCounterBehind = 34
 number NoNetworkKey = 40
 number NoPair = 41
 number TableFull = 42

@@ -12,14 +12,10 @@ pub enum Refusal {
     SenderAbsent,
     // a key identifier that is not allowed, or no key number
     KeyNotAllowed,
-    // NWK: a counter equal to the held one
+    // a counter equal to the held one
     CounterRepeated,
-    // NWK: a counter below the held one
+    // a counter below the held one
     CounterBehind,
-    // APS: a counter equal to the held one
-    PairCounterRepeated,
-    // APS: a counter below the held one
-    PairCounterBehind,
     // no network key of that number
     NoNetworkKey,
     // no usable pair row
@@ -69,8 +65,6 @@ pub fn number_of(refusal: Refusal) -> u8
         Refusal::KeyNotAllowed => 32,
         Refusal::CounterRepeated => 33,
         Refusal::CounterBehind => 34,
-        Refusal::PairCounterRepeated => 33,
-        Refusal::PairCounterBehind => 34,
         Refusal::NoNetworkKey => 40,
         Refusal::NoPair => 41,
         Refusal::TableFull => 42,

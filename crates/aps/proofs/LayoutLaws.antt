@@ -10,10 +10,10 @@ use Rattle.aib.specs.declared.pairs.PairRow.{PairRow}
 use Rattle.control.specs.Control.{hasNumber, sent}
 use Rattle.control.specs.ControlLaws.{sent-sender}
 use Rattle.control.specs.declared.KeyIdentifier.{KeyIdentifier}
-use Rattle.frame.specs.Auxiliary.{auxiliaryOctets}
-use Rattle.frame.specs.AuxiliaryLaws.{octets-length}
-use Rattle.frame.specs.Written.{written}
-use Rattle.frame.specs.WrittenLaws as writing
+use Rattle.auxiliary_header.specs.Auxiliary.{auxiliaryOctets}
+use Rattle.auxiliary_header.specs.AuxiliaryLaws.{octets-length}
+use Rattle.auxiliary_header.specs.Written.{written}
+use Rattle.auxiliary_header.specs.WrittenLaws as writing
 use Rattle.protection.specs.Keys.{keyFor}
 use Rattle.protection.specs.Protection.{securedOctets}
 use Rattle.aps.specs.declared.state.Aps.{Aps}

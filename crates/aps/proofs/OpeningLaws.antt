@@ -14,12 +14,12 @@ use Rattle.answer.specs.declared.Answer.the-variants as answer
 use Rattle.answer.specs.declared.Outcome.{Outcome}
 use Rattle.answer.specs.declared.Outcome.the-variants.{Done, Refused}
 use Rattle.answer.specs.declared.Refusal.{Refusal}
-use Rattle.answer.specs.declared.Refusal.the-variants.{Unsupported, Cut, KeyNotAllowed, PairCounterRepeated, PairCounterBehind, WrongTag, TableFull}
+use Rattle.answer.specs.declared.Refusal.the-variants.{Unsupported, Cut, KeyNotAllowed, CounterRepeated, CounterBehind, WrongTag, TableFull}
 use Rattle.cells.specs.Lists.{any}
 use Rattle.cells.specs.Rows.{Reaction, leave, become, isRow, hasRow, find, put, room, settle}
 use Rattle.aib.specs.declared.pairs.PairRow.{PairRow}
 use Rattle.aib.specs.declared.pairs.Pairs.{Pairs}
-use Rattle.aib.specs.Pairs.{Pair, pairOf, pairRows, answered, pairFound}
+use Rattle.aib.specs.Pairs.{Link, linkOf, pairRows, answered, pairFound}
 use Rattle.aib.specs.Counters.{inUse, holding, heard, recorded}
 use Rattle.control.specs.Control.{identifierOf}
 use Rattle.claims.specs.declared.Claim.{Claim}
@@ -34,14 +34,14 @@ use Rattle.aps.specs.Opening.{heldIn, allowed, tried, replied, kept, com
 
 -- ---- the tests before the tag, and the rest
 
-module _ (c : Claim) (held : Option Pair) (free : Bool) (b : List ℕ) where
+module _ (c : Claim) (held : Option Link) (free : Bool) (b : List ℕ) where
   abbrev pub chosen : Choice
   chosen = keyFor (identifierOf (c .control .byte)) (linkKey held)
 
-  abbrev pub reaction : Bool → Bool → Bool → Bool → Bool → Reaction Heard Pair
+  abbrev pub reaction : Bool → Bool → Bool → Bool → Bool → Reaction Heard Link
   reaction repeated behind cut barred right =
-      cond repeated (leave (refused PairCounterRepeated b))
-      (cond behind (leave (refused PairCounterBehind b))
+      cond repeated (leave (refused CounterRepeated b))
+      (cond behind (leave (refused CounterBehind b))
       (cond cut (leave (refused Cut b))
       (cond barred (leave (refused KeyNotAllowed b))
       (cond (not right) (leave (refused WrongTag b))
@@ -50,7 +50,7 @@ module _ (c : Claim) (held : Option Pair) (free : Bool) (b : List ℕ) where
       (refused TableFull b))))))
 
   abbrev outcome : Bool → Bool → Bool → Outcome
-  outcome repeated behind cut = cond repeated (Refused PairCounterRepeated) (cond behind (Refused PairCounterBehind) (cond cut (Refused Cut) Done))
+  outcome repeated behind cut = cond repeated (Refused CounterRepeated) (cond behind (Refused CounterBehind) (cond cut (Refused Cut) Done))
 
   pub judged-refused : (why : Refusal) → allowed c (incoming held) (length b) ≡ Refused why → refused why b ≡ replied free (apsJudged c held b)
   unfolding allowed apsJudged
@@ -107,11 +107,11 @@ found-row [] d = refl
 found-row (r ∷ rs) d = at (isRow pairRows d r) (found-row rs d)
   where
     at : (t : Bool) → (answered d (find pairRows rs d)) .found ≡ hasRow pairRows rs d
-        → (answered d (cond t (some (pairOf r)) (find pairRows rs d))) .found ≡ t || hasRow pairRows rs d
+        → (answered d (cond t (some (linkOf r)) (find pairRows rs d))) .found ≡ t || hasRow pairRows rs d
     at true e = refl
     at false e = e
 
-held-found : (d : ℕ) (o : Option Pair) → heldIn (answered d o) ≡ o
+held-found : (d : ℕ) (o : Option Link) → heldIn (answered d o) ≡ o
 held-found d none = refl
 held-found d (some p) = refl
 
@@ -141,7 +141,7 @@ module _ (pairs : Pairs) (d : ℕ) where
 -- ---- the commit
 
 module _ (pairs : Pairs) (c : Claim) (b : List ℕ) (sixteen : length (pairs .rows) ≡ 16) (few : pairs .used ≤ 16) where
-  abbrev held : Option Pair
+  abbrev held : Option Link
   held = find pairRows (inUse pairs) (c .sender)
 
   abbrev free : Bool

@@ -22,7 +22,7 @@ use Rattle.aib.specs.Counters.{inUse, holding, raised, advanced}
 use Rattle.control.specs.Control.{hasNumber, sent}
 use Rattle.control.specs.declared.KeyIdentifier.{KeyIdentifier}
 use Rattle.control.specs.declared.KeyIdentifier.the-variants.{Link, Transport, Load}
-use Rattle.header.specs.Aps.{apsTaken, apsLength, apsDelivery, isCommand, isSecured}
+use Rattle.frame_header.specs.Aps.{apsTaken, apsLength, apsDelivery, isCommand, isSecured}
 use Rattle.claims.specs.Claims.{spent}
 use Rattle.aps.specs.declared.state.Aps.{Aps}
 use Rattle.aps.specs.declared.sending.Chosen.{Chosen}

@@ -7,11 +7,11 @@ use lib.Dec.{eqb, ltb}
 use lib.ListN.{length}
 use Rattle.answer.specs.declared.Answer.{Answer}
 use Rattle.answer.specs.declared.Answer.the-variants.{Done}
-use Rattle.answer.specs.declared.Refusal.the-variants.{Unsupported, Cut, KeyNotAllowed, PairCounterRepeated, PairCounterBehind, WrongTag, TableFull}
+use Rattle.answer.specs.declared.Refusal.the-variants.{Unsupported, Cut, KeyNotAllowed, CounterRepeated, CounterBehind, WrongTag, TableFull}
 use Rattle.cells.specs.Rows.{Reaction, leave, become, Settled, find, settle}
 use Rattle.aib.specs.declared.pairs.PairRow.{PairRow}
 use Rattle.aib.specs.declared.pairs.Pairs.{Pairs}
-use Rattle.aib.specs.Pairs.{Pair, pairRows, trustCenterLinkKey}
+use Rattle.aib.specs.Pairs.{Link, pairRows, trustCenterLinkKey}
 use Rattle.aib.specs.Counters.{inUse, holding, heard}
 use Rattle.control.specs.Control.{identifierOf}
 use Rattle.claims.specs.declared.Claim.{Claim}
@@ -24,23 +24,23 @@ use Rattle.protection.specs.Heard.{Heard, refused, equals, below}
 use Rattle.protection.specs.Protection.{level, tagSize, payloadSize, vouches, openedOctets}
 
 -- an unknown device is tried with the trust centre link key; no counter is held for it
-abbrev pub linkKey : Option Pair → List ℕ
+abbrev pub linkKey : Option Link → List ℕ
 linkKey none = trustCenterLinkKey
 linkKey (some p) = p .key
 
-abbrev pub incoming : Option Pair → Option ℕ
+abbrev pub incoming : Option Link → Option ℕ
 incoming none = none
 incoming (some p) = some (p .incoming)
 
 -- Known device and counter equal to its incoming counter: 33; below it: 34. Fewer than 4 bytes left: 2. Wrong tag: 5. Unknown device and no free row: 42.
 -- (A key identifier that chooses no key is 32. No frame comes so far: `apsWho` has refused it, in its place in the order.)
 -- Else 0, with the buffer as for NWK; the device's incoming counter is the frame's.
-unfoldable pub apsJudged : Claim → Option Pair → List ℕ → Reaction Heard Pair
+unfoldable pub apsJudged : Claim → Option Link → List ℕ → Reaction Heard Link
 apsJudged c held b =
     let chosen : Choice = keyFor (identifierOf (c .control .byte)) (linkKey held) in
     let key : List ℕ = chosen .key in
-    cond (equals (incoming held) (c .counter)) (leave (refused PairCounterRepeated b))
-    (cond (below (incoming held) (c .counter)) (leave (refused PairCounterBehind b))
+    cond (equals (incoming held) (c .counter)) (leave (refused CounterRepeated b))
+    (cond (below (incoming held) (c .counter)) (leave (refused CounterBehind b))
     (cond (ltb (length b) (c .payload + tagSize)) (leave (refused Cut b))
     (cond (chosen .refused) (leave (refused KeyNotAllowed b))
     (cond (not (vouches key (c .sender) (c .counter) (c .at) (c .payload) b)) (leave (refused WrongTag b))

@@ -8,11 +8,11 @@ use Rattle.answer.specs.declared.Answer.{Answer}
 use Rattle.answer.specs.declared.Answer.the-variants as answer
 use Rattle.answer.specs.declared.Outcome.{Outcome}
 use Rattle.answer.specs.declared.Outcome.the-variants.{Done, Refused}
-use Rattle.answer.specs.declared.Refusal.the-variants.{Cut, PairCounterRepeated, PairCounterBehind, WrongTag, TableFull}
+use Rattle.answer.specs.declared.Refusal.the-variants.{Cut, CounterRepeated, CounterBehind, WrongTag, TableFull}
 use Rattle.cells.specs.Rows.{Reaction, leave, become, find, settle}
 use Rattle.aib.specs.declared.pairs.Pairs.{Pairs}
 use Rattle.aib.specs.declared.search.PairFound.{PairFound}
-use Rattle.aib.specs.Pairs.{Pair, pairOf, pairRows}
+use Rattle.aib.specs.Pairs.{Link, linkOf, pairRows}
 use Rattle.aib.specs.Counters.{inUse, recorded}
 use Rattle.claims.specs.declared.Claim.{Claim}
 use Rattle.protection.specs.Heard.{Heard, refused, equals, below}
@@ -20,14 +20,14 @@ use Rattle.protection.specs.Protection.{tagSize, payloadSize, vouches, openedOc
 use Rattle.aps.specs.OpenAps.{Opened, apsJudged, apsCommitted}
 
 -- the pair of a row that a search found
-abbrev pub heldIn : PairFound → Option Pair
-heldIn f = cond (f .found) (some (pairOf (f .row))) none
+abbrev pub heldIn : PairFound → Option Link
+heldIn f = cond (f .found) (some (linkOf (f .row))) none
 
 -- the tests before the tag: the counter held for the device, and the frame's size
 unfoldable pub allowed : Claim → Option ℕ → ℕ → Outcome
 allowed c held size =
-    cond (equals held (c .counter)) (Refused PairCounterRepeated)
-    (cond (below held (c .counter)) (Refused PairCounterBehind)
+    cond (equals held (c .counter)) (Refused CounterRepeated)
+    (cond (below held (c .counter)) (Refused CounterBehind)
     (cond (ltb size (c .payload + tagSize)) (Refused Cut) Done))
 
 -- the tag, and only then the room for a new row
@@ -39,7 +39,7 @@ tried c key room b =
     (refused TableFull b))
 
 -- what a reaction answers where there is room for a new row, and where there is none
-abbrev pub replied : Bool → Reaction Heard Pair → Heard
+abbrev pub replied : Bool → Reaction Heard Link → Heard
 replied room (leave out) = out
 replied room (become c out full) = cond room out full
 

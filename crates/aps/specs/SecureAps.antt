@@ -17,8 +17,8 @@ use Rattle.aib.specs.Counters.{inUse, holding, raised}
 use Rattle.control.specs.Control.{sent}
 use Rattle.control.specs.declared.KeyIdentifier.{KeyIdentifier}
 use Rattle.control.specs.declared.KeyIdentifier.the-variants.{Link, Transport, Load}
-use Rattle.frame.specs.Auxiliary.{auxiliaryOctets}
-use Rattle.header.specs.Aps.{apsTaken, apsLength, isCommand, isSecured}
+use Rattle.auxiliary_header.specs.Auxiliary.{auxiliaryOctets}
+use Rattle.frame_header.specs.Aps.{apsTaken, apsLength, isCommand, isSecured}
 use Rattle.aps.specs.declared.state.Aps.{Aps}
 use Rattle.claims.specs.Claims.{spent}
 use Rattle.protection.specs.Keys.{keyFor}

@@ -12,7 +12,7 @@ use Rattle.aib.specs.declared.pairs.PairRow.{PairRow}
 use Rattle.aib.specs.declared.search.PairFound.{PairFound}
 use Rattle.control.specs.declared.KeyIdentifier.{KeyIdentifier}
 use Rattle.control.specs.declared.KeyIdentifier.the-variants.{Link}
-use Rattle.header.specs.Aps.{apsTaken, apsLength, isCommand, isSecured}
+use Rattle.frame_header.specs.Aps.{apsTaken, apsLength, isCommand, isSecured}
 use Rattle.claims.specs.Claims.{spent}
 use Rattle.protection.specs.Protection.{level}
 use Rattle.aps.specs.declared.state.Aps.{Aps}

@@ -50,10 +50,10 @@ fn allowed(claim: Claim, held: PairFound, size: usize) -> Outcome
 {
     if held.found {
         if claim.counter == held.row.incoming {
-            return Outcome::Refused(Refusal::PairCounterRepeated);
+            return Outcome::Refused(Refusal::CounterRepeated);
         }
         if claim.counter < held.row.incoming {
-            return Outcome::Refused(Refusal::PairCounterBehind);
+            return Outcome::Refused(Refusal::CounterBehind);
         }
     }
     if size - claim.payload < 4 {

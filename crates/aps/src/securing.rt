@@ -5,7 +5,7 @@ ghost use mathlib.Core.List.{_++_};
 ghost use Prim.Native.Nat.{_+_, _≤_};
 ghost use lib.ListN.{length, take, drop};
 ghost use Rattle.control.specs.Control.{hasNumber, sent};
-ghost use Rattle.frame.specs.Auxiliary.{auxiliaryOctets};
+ghost use Rattle.auxiliary_header.specs.Auxiliary.{auxiliaryOctets};
 ghost use Rattle.aps.specs.SecureAps.{apsOnAir, secureAps};
 use crate::keys::key_for;
 use crate::sending::ADDED;
@@ -17,7 +17,7 @@ use aib::Pairs;
 use answer::Answer;
 use control::Control;
 use control::KeyIdentifier;
-use header::ApsControl;
+use frame_header::ApsControl;
 
 pub struct SecuredAps {
     pub answer: Answer,
@@ -42,7 +42,7 @@ fn lay(
 {
     let at = header + AUXILIARY;
     bytes::copy(&plain[..header], out);
-    frame::write(out, header, Control::sent(identifier), counter, own, 0);
+    auxiliary_header::write(out, header, Control::sent(identifier), counter, own, 0);
     bytes::copy(&plain[header..], &mut out[at..]);
 }
 

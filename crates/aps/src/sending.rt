@@ -3,7 +3,7 @@ ghost use mathlib.Core.Path.{_≡_};
 ghost use mathlib.Core.Bool.{not, _&&_};
 ghost use Prim.Native.Nat.{_≤_, _<_};
 ghost use lib.ListN.{length, getD};
-ghost use Rattle.header.specs.Aps.{apsLength};
+ghost use Rattle.frame_header.specs.Aps.{apsLength};
 ghost use Rattle.aps.specs.SecureAps.{identifierFor};
 ghost use Rattle.aps.specs.Sending.{choice, carriedBy, shortest, kindTaken, plainTaken, rowIn, sendable, sentBy, judgement};
 use crate::state::Aps;
@@ -12,7 +12,7 @@ use aib::PairFound;
 use answer::Outcome;
 use answer::Refusal;
 use control::KeyIdentifier;
-use header::ApsControl;
+use frame_header::ApsControl;
 
 // The key by which a frame is secured, or why it is not.
 pub(crate) enum Chosen {

@@ -106,7 +106,7 @@ fn controls() {
     octet(Control::sent(KeyIdentifier::Transport).byte);
     octet(Control::sent(KeyIdentifier::Load).byte);
     text(b"\nP3 nonce:");
-    let nonce = frame::nonce(LOGGER, 5, Control { byte: 0x2d });
+    let nonce = auxiliary_header::nonce(LOGGER, 5, Control { byte: 0x2d });
     octets(&nonce);
     text(b"\n");
 }

@@ -8,18 +8,18 @@ use lib.Dec.{eqb, ltb}
 use lib.ListN.{length}
 use borrow.Author.Tests.{ltb-false}
 use Rattle.answer.specs.declared.Answer.{Answer}
-use Rattle.frame.specs.declared.auxiliary.Auxiliary.{Auxiliary}
-use Rattle.frame.specs.declared.auxiliary.AuxiliaryRead.{AuxiliaryRead}
-use Rattle.frame.specs.declared.auxiliary.AuxiliaryRead.the-variants as auxiliary
-use Rattle.frame.specs.declared.auxiliary.Sender.{Sender}
-use Rattle.frame.specs.declared.auxiliary.Sender.the-variants.{Address, Absent}
-use Rattle.frame.specs.Auxiliary.{auxiliaryAt}
-use Rattle.header.specs.declared.network.NwkRead.{NwkRead}
-use Rattle.header.specs.declared.network.NwkRead.the-variants as nwk
-use Rattle.header.specs.declared.application.ApsRead.{ApsRead}
-use Rattle.header.specs.declared.application.ApsRead.the-variants as aps
-use Rattle.header.specs.Nwk.{nwkOf}
-use Rattle.header.specs.Aps.{apsOf}
+use Rattle.auxiliary_header.specs.declared.auxiliary.Auxiliary.{Auxiliary}
+use Rattle.auxiliary_header.specs.declared.auxiliary.AuxiliaryRead.{AuxiliaryRead}
+use Rattle.auxiliary_header.specs.declared.auxiliary.AuxiliaryRead.the-variants as auxiliary
+use Rattle.auxiliary_header.specs.declared.auxiliary.Sender.{Sender}
+use Rattle.auxiliary_header.specs.declared.auxiliary.Sender.the-variants.{Address, Absent}
+use Rattle.auxiliary_header.specs.Auxiliary.{auxiliaryAt}
+use Rattle.frame_header.specs.declared.network.NwkRead.{NwkRead}
+use Rattle.frame_header.specs.declared.network.NwkRead.the-variants as nwk
+use Rattle.frame_header.specs.declared.application.ApsRead.{ApsRead}
+use Rattle.frame_header.specs.declared.application.ApsRead.the-variants as aps
+use Rattle.frame_header.specs.Nwk.{nwkOf}
+use Rattle.frame_header.specs.Aps.{apsOf}
 use Rattle.nib.specs.declared.keys.NetworkKeys.{NetworkKeys}
 use Rattle.nib.specs.Keys.{keyFound}
 use Rattle.claims.specs.declared.Claim.{Claim}

@@ -7,18 +7,18 @@ use native.Mathlib.Omega.{arith}
 use lib.Dec.{eqb, leb}
 use lib.ListN.{length, getD}
 use borrow.Author.Tests.{leb-true}
-use Rattle.header.specs.declared.network.NwkHeader.{NwkHeader}
-use Rattle.header.specs.declared.network.NwkRead.{NwkRead}
-use Rattle.header.specs.declared.network.NwkRead.the-variants as nwk
-use Rattle.header.specs.Nwk.{nwkLength, nwkOf}
-use Rattle.header.specs.declared.application.ApsHeader.{ApsHeader}
-use Rattle.header.specs.declared.application.ApsRead.{ApsRead}
-use Rattle.header.specs.declared.application.ApsRead.the-variants as aps
-use Rattle.header.specs.Aps.{isCommand, isSecured, apsTaken, apsLength, apsOf}
-use Rattle.frame.specs.declared.auxiliary.Auxiliary.{Auxiliary}
-use Rattle.frame.specs.declared.auxiliary.AuxiliaryRead.{AuxiliaryRead}
-use Rattle.frame.specs.declared.auxiliary.AuxiliaryRead.the-variants as auxiliary
-use Rattle.frame.specs.Auxiliary.{auxiliaryLength, auxiliaryAt}
+use Rattle.frame_header.specs.declared.network.NwkHeader.{NwkHeader}
+use Rattle.frame_header.specs.declared.network.NwkRead.{NwkRead}
+use Rattle.frame_header.specs.declared.network.NwkRead.the-variants as nwk
+use Rattle.frame_header.specs.Nwk.{nwkLength, nwkOf}
+use Rattle.frame_header.specs.declared.application.ApsHeader.{ApsHeader}
+use Rattle.frame_header.specs.declared.application.ApsRead.{ApsRead}
+use Rattle.frame_header.specs.declared.application.ApsRead.the-variants as aps
+use Rattle.frame_header.specs.Aps.{isCommand, isSecured, apsTaken, apsLength, apsOf}
+use Rattle.auxiliary_header.specs.declared.auxiliary.Auxiliary.{Auxiliary}
+use Rattle.auxiliary_header.specs.declared.auxiliary.AuxiliaryRead.{AuxiliaryRead}
+use Rattle.auxiliary_header.specs.declared.auxiliary.AuxiliaryRead.the-variants as auxiliary
+use Rattle.auxiliary_header.specs.Auxiliary.{auxiliaryLength, auxiliaryAt}
 
 -- what is picked where a test fails is not what was read
 pick : {A B : Type 0} (t : Bool) (make : A → B) (x h : A) (other : B) (P : A → Type 0) → cond t (make x) other ≡ make h

@@ -8,20 +8,20 @@ use lib.ListN.{length}
 use Rattle.answer.specs.declared.Answer.the-variants.{Plain, Refused}
 use Rattle.answer.specs.declared.Refusal.{Refusal}
 use Rattle.answer.specs.declared.Refusal.the-variants.{Unsupported, Cut, CounterSpent, SenderAbsent, KeyNotAllowed, NoNetworkKey, DeviceAbsent}
-use Rattle.frame.specs.declared.auxiliary.Auxiliary.{Auxiliary}
-use Rattle.frame.specs.declared.auxiliary.AuxiliaryRead.{AuxiliaryRead}
-use Rattle.frame.specs.declared.auxiliary.AuxiliaryRead.the-variants as auxiliary
-use Rattle.frame.specs.declared.auxiliary.Sender.{Sender}
-use Rattle.frame.specs.declared.auxiliary.Sender.the-variants.{Address, Absent}
-use Rattle.frame.specs.declared.auxiliary.KeyUsed.{KeyUsed}
-use Rattle.frame.specs.declared.auxiliary.KeyUsed.the-variants as used
-use Rattle.frame.specs.Auxiliary.{auxiliaryAt}
-use Rattle.header.specs.declared.network.NwkRead.{NwkRead}
-use Rattle.header.specs.declared.network.NwkRead.the-variants as nwk
-use Rattle.header.specs.declared.application.ApsRead.{ApsRead}
-use Rattle.header.specs.declared.application.ApsRead.the-variants as aps
-use Rattle.header.specs.Nwk.{nwkOf}
-use Rattle.header.specs.Aps.{apsOf}
+use Rattle.auxiliary_header.specs.declared.auxiliary.Auxiliary.{Auxiliary}
+use Rattle.auxiliary_header.specs.declared.auxiliary.AuxiliaryRead.{AuxiliaryRead}
+use Rattle.auxiliary_header.specs.declared.auxiliary.AuxiliaryRead.the-variants as auxiliary
+use Rattle.auxiliary_header.specs.declared.auxiliary.Sender.{Sender}
+use Rattle.auxiliary_header.specs.declared.auxiliary.Sender.the-variants.{Address, Absent}
+use Rattle.auxiliary_header.specs.declared.auxiliary.KeyUsed.{KeyUsed}
+use Rattle.auxiliary_header.specs.declared.auxiliary.KeyUsed.the-variants as used
+use Rattle.auxiliary_header.specs.Auxiliary.{auxiliaryAt}
+use Rattle.frame_header.specs.declared.network.NwkRead.{NwkRead}
+use Rattle.frame_header.specs.declared.network.NwkRead.the-variants as nwk
+use Rattle.frame_header.specs.declared.application.ApsRead.{ApsRead}
+use Rattle.frame_header.specs.declared.application.ApsRead.the-variants as aps
+use Rattle.frame_header.specs.Nwk.{nwkOf}
+use Rattle.frame_header.specs.Aps.{apsOf}
 use Rattle.nib.specs.declared.keys.NetworkKeys.{NetworkKeys}
 use Rattle.nib.specs.Keys.{keyFound}
 use Rattle.nib.specs.Pairs.{Pair}

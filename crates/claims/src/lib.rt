@@ -1,16 +1,16 @@
 // What a frame's headers settle, and what it claims where they do not, before anything vouches for it (security/mod.rs of the Rust).
 ghost use mathlib.Core.Path.{_≡_};
-ghost use Rattle.frame.specs.Auxiliary.{auxiliaryAt};
+ghost use Rattle.auxiliary_header.specs.Auxiliary.{auxiliaryAt};
 ghost use Rattle.claims.specs.Claims.{claimed, isNetwork, numberOf, nwkNamed, nwkAuxiliary, nwkWho, apsNamed, apsAuxiliary, apsWho};
 use answer::Answer;
 use answer::Refusal;
+use auxiliary_header::Auxiliary;
+use auxiliary_header::AuxiliaryRead;
+use auxiliary_header::KeyUsed;
+use auxiliary_header::Sender;
 use control::Control;
-use frame::Auxiliary;
-use frame::AuxiliaryRead;
-use frame::KeyUsed;
-use frame::Sender;
-use header::ApsRead;
-use header::NwkRead;
+use frame_header::ApsRead;
+use frame_header::NwkRead;
 use nib::NetworkKeys;
 
 // Sender, counter and key as the auxiliary header has them; `at` is the place of its control byte, `payload` the place after it.
@@ -93,7 +93,7 @@ fn nwk_named(keys: NetworkKeys, a: Auxiliary, at: usize) -> Who
 fn nwk_auxiliary(keys: NetworkKeys, frame: &[u8], at: usize) -> Who
     ensures { λ r. ⌜ r ≡ nwkAuxiliary keys at (auxiliaryAt (now (frame .entry)) at) ⌝ }
 {
-    let AuxiliaryRead::Whole(a) = frame::read(frame, at) else {
+    let AuxiliaryRead::Whole(a) = auxiliary_header::read(frame, at) else {
         return refuse(Refusal::Cut);
     };
     if a.counter == 4294967295 {
@@ -112,7 +112,7 @@ pub fn nwk_who(keys: NetworkKeys, frame: &[u8]) -> Who
     if frame.len() < 4 {
         return refuse(Refusal::Cut);
     }
-    let NwkRead::Whole(h) = header::nwk(frame) else {
+    let NwkRead::Whole(h) = frame_header::nwk(frame) else {
         return refuse(Refusal::Cut);
     };
     if h.secured {
@@ -141,7 +141,7 @@ fn aps_named(a: Auxiliary, at: usize) -> Who
 fn aps_auxiliary(frame: &[u8], at: usize) -> Who
     ensures { λ r. ⌜ r ≡ apsAuxiliary at (auxiliaryAt (now (frame .entry)) at) ⌝ }
 {
-    let AuxiliaryRead::Whole(a) = frame::read(frame, at) else {
+    let AuxiliaryRead::Whole(a) = auxiliary_header::read(frame, at) else {
         return refuse(Refusal::Cut);
     };
     if a.counter == 4294967295 {
@@ -160,7 +160,7 @@ pub fn aps_who(frame: &[u8]) -> Who
     if frame.len() < 4 {
         return refuse(Refusal::Cut);
     }
-    match header::aps(frame) {
+    match frame_header::aps(frame) {
         ApsRead::NotTaken => refuse(Refusal::Unsupported),
         ApsRead::Cut => refuse(Refusal::Cut),
         ApsRead::Whole(h) => {

@@ -26,7 +26,7 @@ pub fn field_at(s: &[u8], at: usize) -> FieldRead
     if left < 3 {
         return FieldRead::Cut;
     }
-    let size = frame::number_at(s, at + 1, 2) as usize;
+    let size = auxiliary_header::number_at(s, at + 1, 2) as usize;
     if left - 3 < size {
         return FieldRead::Cut;
     }

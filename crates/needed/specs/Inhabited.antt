@@ -13,9 +13,9 @@ use Rattle.cells.specs.Lists.{any}
 use Rattle.cells.specs.Machine.{final}
 use Rattle.cells.specs.Rows.{find, hasRow, room, settle, newKeys}
 use Rattle.control.specs.Control.{hasSender, hasNumber, identifierOf}
-use Rattle.frame.specs.Auxiliary.{auxiliaryAt}
-use Rattle.frame.specs.declared.auxiliary.KeyUsed.the-variants as used
-use Rattle.header.specs.Nwk.{nwkOf, nwkLength, nwkFixed}
+use Rattle.auxiliary_header.specs.Auxiliary.{auxiliaryAt}
+use Rattle.auxiliary_header.specs.declared.auxiliary.KeyUsed.the-variants as used
+use Rattle.frame_header.specs.Nwk.{nwkOf, nwkLength, nwkFixed}
 use Rattle.nib.specs.declared.counters.CounterRow.{CounterRow}
 use Rattle.nib.specs.Counters.{empty}
 use Rattle.nib.specs.Keys.{keyFound}

@@ -13,11 +13,11 @@ use Rattle.aes.specs.Cipher.{cipher}
 use Rattle.aes.specs.Schedule.{keyExpansion}
 use Rattle.ccm.specs.Ccm.{vouched, vouchedFrom, tagFrom, chain, counted, head, headBlocks, stream}
 use Rattle.ccm.specs.Frame.{vouchedFrame}
-use Rattle.frame.specs.Nonce.{nonceOf}
-use Rattle.frame.specs.Auxiliary.{auxiliaryAt}
+use Rattle.auxiliary_header.specs.Nonce.{nonceOf}
+use Rattle.auxiliary_header.specs.Auxiliary.{auxiliaryAt}
 use Rattle.control.specs.Control.{hasSender, hasNumber, identifierOf}
-use Rattle.frame.specs.declared.auxiliary.KeyUsed.the-variants as used
-use Rattle.header.specs.Nwk.{nwkOf, nwkLength, nwkFixed}
+use Rattle.auxiliary_header.specs.declared.auxiliary.KeyUsed.the-variants as used
+use Rattle.frame_header.specs.Nwk.{nwkOf, nwkLength, nwkFixed}
 use Rattle.answer.specs.declared.Answer.the-variants.{Done}
 use Rattle.answer.specs.declared.Refusal.the-variants.{CounterRepeated, TableFull}
 use Rattle.cells.specs.Rows.{Reaction, leave, become}

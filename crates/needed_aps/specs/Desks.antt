@@ -7,7 +7,7 @@ use Prim.Native.Nat.{ℕ}
 use native.Mathlib.Omega.{arith}
 use lib.Dec.{eqb}
 use Rattle.answer.specs.declared.Answer.the-variants.{Done, Refused}
-use Rattle.answer.specs.declared.Refusal.the-variants.{PairCounterRepeated, TableFull}
+use Rattle.answer.specs.declared.Refusal.the-variants.{CounterRepeated, TableFull}
 use Rattle.cells.specs.Lists.{any}
 use Rattle.cells.specs.Rows.{find, settle}
 use Rattle.cells.specs.Desk.{openAll}
@@ -63,7 +63,7 @@ unfolding openAll openAps apsPlaced find any settle
 full-back = rw (other-claims, other-opens)
 
 -- of a frame and its copy, the one that comes second is refused
-pub copy-forth : (opened (start 0 copies) forth) .told 1 ≡ saying (Refused PairCounterRepeated)
+pub copy-forth : (opened (start 0 copies) forth) .told 1 ≡ saying (Refused CounterRepeated)
 unfolding openAll openAps apsPlaced find any settle
 copy-forth = rw (one-claims, one-opens, one-again)
 

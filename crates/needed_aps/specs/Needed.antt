@@ -6,7 +6,7 @@ use Prim.Native.Nat.{ℕ, _+_, _≤_}
 use native.Mathlib.Omega.{arith}
 use lib.ListN.{length}
 use Rattle.answer.specs.declared.Answer.the-variants.{Done, Refused}
-use Rattle.answer.specs.declared.Refusal.the-variants.{PairCounterRepeated, TableFull}
+use Rattle.answer.specs.declared.Refusal.the-variants.{CounterRepeated, TableFull}
 use Rattle.cells.specs.Lists.{any, Distinct}
 use Rattle.cells.specs.Rows.{newKeys}
 use Rattle.cells.specs.Reorder.{Reordered}
@@ -35,6 +35,6 @@ pub aps-needs-order : ¬ ((d : ApsDesk) (p q : List ℕ)
 unfolding newKeys any
 aps-needs-order claim =
     let z = claim (start 0 copies) forth back refl (rw one-claims (omega arith)) forth-once back-once none-lost none-added in
-    let w : saying (Refused PairCounterRepeated) ≡ saying (Done 15 0) = sym copy-forth ∙ z .answers 1 ∙ copy-back in
+    let w : saying (Refused CounterRepeated) ≡ saying (Done 15 0) = sym copy-forth ∙ z .answers 1 ∙ copy-back in
     let v : _≡_ {A = ℕ} 33 0 = ap saidNumber w in
     omega arith

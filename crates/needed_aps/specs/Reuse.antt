@@ -10,7 +10,7 @@ use lib.ListN.{replicate}
 use Rattle.answer.specs.declared.Answer.the-variants.{Done}
 use Rattle.laws.specs.Numbers.{bit}
 use Rattle.cells.specs.First.{first, atFirst}
-use Rattle.header.specs.Aps.{apsTaken, apsLength}
+use Rattle.frame_header.specs.Aps.{apsTaken, apsLength}
 use Rattle.aib.specs.Pairs.{newRow}
 use Rattle.aps.specs.SecureAps.{apsOnAir, secureAps}
 use Rattle.order.specs.Aps.{Gateway}

@@ -17,15 +17,15 @@ use Rattle.answer.specs.declared.Refusal.the-variants.{TableFull}
 use Rattle.cells.specs.Rows.{become, find, put, room, settle}
 use Rattle.control.specs.Control.{sent, hasSender, hasNumber, identifierOf}
 use Rattle.control.specs.declared.KeyIdentifier.the-variants.{Network}
-use Rattle.frame.specs.declared.auxiliary.AuxiliaryRead.the-variants as auxiliary
-use Rattle.frame.specs.declared.auxiliary.Sender.the-variants.{Address}
-use Rattle.frame.specs.declared.auxiliary.KeyUsed.the-variants as used
-use Rattle.frame.specs.Auxiliary.{auxiliaryOctets, auxiliaryAt}
-use Rattle.frame.specs.AuxiliaryLaws.{read-back}
-use Rattle.header.specs.declared.network.NwkRead.{NwkRead}
-use Rattle.header.specs.declared.network.NwkRead.the-variants as nwk
-use Rattle.header.specs.Nwk.{nwkControl, nwkKind, nwkLength, nwkOf}
-use Rattle.header.specs.NwkLaws.{nwk-whole, same-control, same-length}
+use Rattle.auxiliary_header.specs.declared.auxiliary.AuxiliaryRead.the-variants as auxiliary
+use Rattle.auxiliary_header.specs.declared.auxiliary.Sender.the-variants.{Address}
+use Rattle.auxiliary_header.specs.declared.auxiliary.KeyUsed.the-variants as used
+use Rattle.auxiliary_header.specs.Auxiliary.{auxiliaryOctets, auxiliaryAt}
+use Rattle.auxiliary_header.specs.AuxiliaryLaws.{read-back}
+use Rattle.frame_header.specs.declared.network.NwkRead.{NwkRead}
+use Rattle.frame_header.specs.declared.network.NwkRead.the-variants as nwk
+use Rattle.frame_header.specs.Nwk.{nwkControl, nwkKind, nwkLength, nwkOf}
+use Rattle.frame_header.specs.NwkLaws.{nwk-whole, same-control, same-length}
 use Rattle.nib.specs.declared.counters.CounterRow.{CounterRow}
 use Rattle.nib.specs.declared.outgoing.Outgoing.{Outgoing}
 use Rattle.nib.specs.Counters.{Cell, counting, counterIn, counterRows, capacity, pair}

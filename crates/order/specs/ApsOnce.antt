@@ -13,7 +13,7 @@ use Rattle.laws.specs.Numbers.{field}
 use Rattle.cells.specs.First.{first, atFirst}
 use Rattle.cells.specs.Lists.{Distinct}
 use Rattle.cells.specs.ListLaws.{either}
-use Rattle.header.specs.Aps.{apsLength}
+use Rattle.frame_header.specs.Aps.{apsLength}
 use Rattle.aib.specs.declared.counters.Advanced.{Advanced}
 use Rattle.aib.specs.declared.pairs.PairRow.{PairRow}
 use Rattle.aib.specs.declared.pairs.Pairs.{Pairs}
@@ -22,7 +22,7 @@ use Rattle.aib.specs.Pairs.{mayUse}
 use Rattle.claims.specs.Claims.{spent}
 use Rattle.aps.specs.SecureAps.{Secured, identifierFor}
 use Rattle.order.specs.Frames.{ifDone, ifTaken}
-use Rattle.frame.specs.NonceLaws.{counter-in}
+use Rattle.auxiliary_header.specs.NonceLaws.{counter-in}
 use Rattle.order.specs.Moves.{Moves, stays, rises}
 use Rattle.cells.specs.Once.{usedBy, used-once}
 use Rattle.order.specs.Aps.{Gateway}

@@ -17,7 +17,7 @@ use Rattle.aib.specs.declared.counters.Advanced.{Advanced}
 use Rattle.aib.specs.Counters.{inUse, holding, raised, notAdvanced, advancedBy, advanced}
 use Rattle.aib.specs.Pairs.{mayUse}
 use Rattle.control.specs.declared.KeyIdentifier.{KeyIdentifier}
-use Rattle.header.specs.Aps.{apsTaken, apsLength, isCommand, isSecured}
+use Rattle.frame_header.specs.Aps.{apsTaken, apsLength, isCommand, isSecured}
 use Rattle.claims.specs.Claims.{spent}
 use Rattle.aps.specs.declared.state.Aps.{Aps}
 use Rattle.aps.specs.SecureAps.{Secured, notSecured, identifierFor, apsAdded, apsDone, apsSent, apsKeyed, secureAps}

@@ -9,8 +9,8 @@ use lib.ListN.{getD}
 use Rattle.cells.specs.First.{first}
 use Rattle.control.specs.Control.{filled, sent}
 use Rattle.control.specs.declared.KeyIdentifier.{KeyIdentifier}
-use Rattle.frame.specs.Nonce.{nonceOf}
-use Rattle.header.specs.Aps.{apsLength}
+use Rattle.auxiliary_header.specs.Nonce.{nonceOf}
+use Rattle.frame_header.specs.Aps.{apsLength}
 use Rattle.aib.specs.declared.pairs.PairRow.{PairRow}
 use Rattle.aib.specs.Counters.{inUse, advanced}
 use Rattle.aib.specs.Pairs.{mayUse}

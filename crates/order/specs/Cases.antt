@@ -15,11 +15,11 @@ use Rattle.answer.specs.Numbers.{outcomeNumber, told}
 use Rattle.cells.specs.Rows.{find, settle}
 use Rattle.control.specs.declared.KeyIdentifier.the-variants.{Link, Network, Transport, Load}
 use Rattle.control.specs.Control.{filled, sent}
-use Rattle.frame.specs.Nonce.{nonceOf}
-use Rattle.frame.specs.Cases as frame
-use Rattle.header.specs.declared.network.NwkHeader.{NwkHeader}
-use Rattle.header.specs.declared.network.NwkRead.the-variants as nwk
-use Rattle.header.specs.Nwk.{nwkOf}
+use Rattle.auxiliary_header.specs.Nonce.{nonceOf}
+use Rattle.auxiliary_header.specs.Cases as frame
+use Rattle.frame_header.specs.declared.network.NwkHeader.{NwkHeader}
+use Rattle.frame_header.specs.declared.network.NwkRead.the-variants as nwk
+use Rattle.frame_header.specs.Nwk.{nwkOf}
 use Rattle.mmo.specs.Hash.{padding}
 use Rattle.nib.specs.declared.counters.CounterRow.{CounterRow}
 use Rattle.nib.specs.Active.{turn}
@@ -29,7 +29,7 @@ use Rattle.nib.specs.Sending.{taken, restarted}
 use Rattle.nib.specs.Cases as nib
 use Rattle.aib.specs.declared.pairs.Pairs.{Pairs}
 use Rattle.aib.specs.Counters.{inUse}
-use Rattle.aib.specs.Pairs.{Pair, pairRows}
+use Rattle.aib.specs.Pairs.{Link, pairRows}
 use Rattle.claims.specs.declared.Claim.{Claim}
 use Rattle.claims.specs.declared.Who.{Who}
 use Rattle.claims.specs.declared.Who.the-variants.{Told, Claims}
@@ -65,7 +65,7 @@ pub record NwkOpens (s : Nwk) (rows : List CounterRow) (used : ℕ) (b : List �
 -- As `NwkHeard`, for an APS frame of a known device.
 pub record ApsHeard (s : Aps) (pairs : Pairs) (b : List ℕ) (held counter : ℕ) : Type 0 where
   pub claim : Claim
-  pub known : Pair
+  pub known : Link
   pub taken : apsUnfit s pairs ≡ false
   pub claims : apsWho b ≡ Claims claim
   pub row : find pairRows (inUse pairs) (claim .sender) ≡ some known

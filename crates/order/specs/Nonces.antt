@@ -17,10 +17,10 @@ use Rattle.cells.specs.Once.{usedBy}
 use Rattle.control.specs.Control.{filled, sent}
 use Rattle.control.specs.declared.KeyIdentifier.{KeyIdentifier}
 use Rattle.control.specs.declared.KeyIdentifier.the-variants.{Network}
-use Rattle.frame.specs.Auxiliary.{auxiliaryOctets}
-use Rattle.frame.specs.Nonce.{nonceOf}
-use Rattle.header.specs.Aps.{apsLength}
-use Rattle.header.specs.Nwk.{nwkLength}
+use Rattle.auxiliary_header.specs.Auxiliary.{auxiliaryOctets}
+use Rattle.auxiliary_header.specs.Nonce.{nonceOf}
+use Rattle.frame_header.specs.Aps.{apsLength}
+use Rattle.frame_header.specs.Nwk.{nwkLength}
 use Rattle.aib.specs.Counters.{inUse}
 use Rattle.aib.specs.Pairs.{mayUse}
 use Rattle.nib.specs.declared.outgoing.Outgoing.{Outgoing}

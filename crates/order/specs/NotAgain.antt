@@ -4,7 +4,7 @@ use mathlib.Core.Path.{_≡_}
 use mathlib.Core.Bool.{true}
 use mathlib.Core.List.{List}
 use Prim.Native.Nat.{ℕ, _≤_}
-use Rattle.answer.specs.declared.Refusal.the-variants.{CounterRepeated, CounterBehind, PairCounterRepeated, PairCounterBehind}
+use Rattle.answer.specs.declared.Refusal.the-variants.{CounterRepeated, CounterBehind}
 use Rattle.cells.specs.Machine.{final}
 use Rattle.claims.specs.declared.Claim.{Claim}
 use Rattle.claims.specs.declared.Who.the-variants.{Claims}
@@ -38,5 +38,5 @@ pub aps-not-again : (g : aps.Gateway) (frame : List ℕ) (between : List aps-ste
     → c′ .counter ≤ c .counter
     → opens (aps.answer g frame) ≡ true
     → (let later : aps.Gateway = final aps-steps.afterStep (aps-steps.afterStep g (aps-steps.opening frame)) between in
-    Stale (incoming (aps.heldPair later (c′ .sender))) (c′ .counter) PairCounterRepeated PairCounterBehind again (aps.answer later again))
+    Stale (incoming (aps.heldLink later (c′ .sender))) (c′ .counter) CounterRepeated CounterBehind again (aps.answer later again))
 aps-not-again = aps-proof.not-again

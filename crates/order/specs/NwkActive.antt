@@ -18,15 +18,15 @@ use Rattle.cells.specs.Lists.{any}
 use Rattle.cells.specs.ListLaws.{clash, either}
 use Rattle.cells.specs.Machine.{run, final}
 use Rattle.cells.specs.Rows.{find}
-use Rattle.frame.specs.declared.auxiliary.Auxiliary.{Auxiliary}
-use Rattle.frame.specs.declared.auxiliary.AuxiliaryRead.{AuxiliaryRead}
-use Rattle.frame.specs.declared.auxiliary.AuxiliaryRead.the-variants as auxiliary
-use Rattle.frame.specs.declared.auxiliary.Sender.{Sender}
-use Rattle.frame.specs.declared.auxiliary.Sender.the-variants.{Address, Absent}
-use Rattle.frame.specs.Auxiliary.{auxiliaryAt}
-use Rattle.header.specs.declared.network.NwkRead.{NwkRead}
-use Rattle.header.specs.declared.network.NwkRead.the-variants as nwk
-use Rattle.header.specs.Nwk.{nwkOf}
+use Rattle.auxiliary_header.specs.declared.auxiliary.Auxiliary.{Auxiliary}
+use Rattle.auxiliary_header.specs.declared.auxiliary.AuxiliaryRead.{AuxiliaryRead}
+use Rattle.auxiliary_header.specs.declared.auxiliary.AuxiliaryRead.the-variants as auxiliary
+use Rattle.auxiliary_header.specs.declared.auxiliary.Sender.{Sender}
+use Rattle.auxiliary_header.specs.declared.auxiliary.Sender.the-variants.{Address, Absent}
+use Rattle.auxiliary_header.specs.Auxiliary.{auxiliaryAt}
+use Rattle.frame_header.specs.declared.network.NwkRead.{NwkRead}
+use Rattle.frame_header.specs.declared.network.NwkRead.the-variants as nwk
+use Rattle.frame_header.specs.Nwk.{nwkOf}
 use Rattle.nib.specs.declared.keys.NetworkKey.{NetworkKey}
 use Rattle.nib.specs.declared.keys.NetworkKeys.{NetworkKeys}
 use Rattle.nib.specs.Active.{next, turn}

@@ -14,7 +14,7 @@ use Rattle.nib.specs.Sending.{AfterTaking, mayUse, taken}
 use Rattle.nib.specs.declared.state.Nwk.{Nwk}
 use Rattle.securing.specs.SecureNwk.{Secured}
 use Rattle.order.specs.Frames.{ifDone, ifTaken}
-use Rattle.frame.specs.NonceLaws.{counter-in}
+use Rattle.auxiliary_header.specs.NonceLaws.{counter-in}
 use Rattle.order.specs.Moves.{Moves, stays, rises}
 use Rattle.cells.specs.Once.{usedBy, used-once}
 use Rattle.order.specs.NwkSent as nwk

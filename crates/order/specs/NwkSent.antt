@@ -9,8 +9,8 @@ use borrow.Author.Tests.{leb-true}
 use Rattle.answer.specs.declared.Refusal.{Refusal}
 use Rattle.laws.specs.Numbers.{bit}
 use Rattle.cells.specs.ListLaws.{either, not-not, which}
-use Rattle.header.specs.declared.network.NwkRead.the-variants as nwk
-use Rattle.header.specs.Nwk.{nwkControl, nwkKind, nwkLength, nwkOf}
+use Rattle.frame_header.specs.declared.network.NwkRead.the-variants as nwk
+use Rattle.frame_header.specs.Nwk.{nwkControl, nwkKind, nwkLength, nwkOf}
 use Rattle.nib.specs.declared.outgoing.Outgoing.{Outgoing}
 use Rattle.nib.specs.Keys.{keyFound}
 use Rattle.nib.specs.Sending.{mayUse}

@@ -2,7 +2,7 @@
 use mathlib.Core.List.{List}
 use mathlib.Core.Option.{Option, none}
 use Prim.Native.Nat.{ℕ}
-use Rattle.frame.specs.Nonce.{nonceOf}
+use Rattle.auxiliary_header.specs.Nonce.{nonceOf}
 use Rattle.nib.specs.declared.outgoing.Outgoing.{Outgoing}
 use Rattle.nib.specs.Sending.{taken}
 use Rattle.securing.specs.SecureNwk.{Secured, secureNwk}

@@ -17,7 +17,7 @@ use Rattle.aes.specs.Words.{keyBytes, cipherWords}
 use Rattle.ccm.specs.Ccm.{sealed}
 use Rattle.ccm.specs.Frame.{tagTaken, fitting, unsealing, sealedFrame, openedFrame}
 use Rattle.control.specs.Control.{filled}
-use Rattle.frame.specs.Nonce.{nonceOf}
+use Rattle.auxiliary_header.specs.Nonce.{nonceOf}
 use Rattle.protection.specs.Protection.{vouches, openedOctets, securedOctets, under}
 
 fits : (at k room : ℕ) → at ≤ 1024 → k ≤ 1024 → at + k + 4 ≤ room → fitting 4 at k room ≡ Done

@@ -9,7 +9,7 @@ use Rattle.aes.specs.Schedule.{keyExpansion}
 use Rattle.ccm.specs.Ccm.{sealed}
 use Rattle.ccm.specs.Frame.{openedFrame, vouchedFrame}
 use Rattle.control.specs.Control.{filled}
-use Rattle.frame.specs.Nonce.{nonceOf}
+use Rattle.auxiliary_header.specs.Nonce.{nonceOf}
 
 -- level 5, and the length of its tag
 abbrev pub level : ℕ

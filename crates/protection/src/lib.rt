@@ -30,7 +30,7 @@ pub fn unprotect(
     let keys = aes::expand(key);
     let sent = frame[at];
     let control = Control { byte: sent }.filled(LEVEL);
-    let nonce = frame::nonce(sender, counter, control);
+    let nonce = auxiliary_header::nonce(sender, counter, control);
     let size = frame.len() - TAG - payload;
     frame[at] = control.byte;
     match ccm::unseal(&keys, nonce, TAG, frame, payload, size) {
@@ -76,7 +76,7 @@ pub fn protect(
     let keys = aes::expand(key);
     let sent = out[at];
     let control = Control { byte: sent }.filled(LEVEL);
-    let nonce = frame::nonce(sender, counter, control);
+    let nonce = auxiliary_header::nonce(sender, counter, control);
     out[at] = control.byte;
     ccm::seal(&keys, nonce, TAG, out, payload, n);
     out[at] = sent;

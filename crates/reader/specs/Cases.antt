@@ -4,9 +4,9 @@ use mathlib.Core.List.{List, [], _∷_}
 use Prim.Native.Nat.{ℕ}
 use Rattle.laws.specs.Numbers.{field, value, bit}
 use Rattle.cells.specs.Rows.{find}
-use Rattle.frame.specs.Auxiliary.{auxiliaryAt}
+use Rattle.auxiliary_header.specs.Auxiliary.{auxiliaryAt}
 use Rattle.control.specs.Control.{hasSender, hasNumber, identifierOf}
-use Rattle.header.specs.Nwk.{nwkOf, nwkLength, nwkFixed}
+use Rattle.frame_header.specs.Nwk.{nwkOf, nwkLength, nwkFixed}
 use Rattle.nib.specs.Keys.{keyFound}
 use Rattle.claims.specs.Claims.{nwkWho}
 use Rattle.judging.specs.OpenNwk.{openNwk, nwkPlaced}

@@ -143,8 +143,8 @@ fn counter_field(reader: Reader, body: &[u8]) -> Step
         return bad(reader, Fault::SurplusRow);
     }
     let number = body[0];
-    let sender = frame::number_at(body, 1, 8);
-    let counter = frame::number_at(body, 9, 4) as u32;
+    let sender = auxiliary_header::number_at(body, 1, 8);
+    let counter = auxiliary_header::number_at(body, 9, 4) as u32;
     let mut rows = reader.rows;
     if repeated(rows, used, number, sender) < used {
         return bad(reader, Fault::RepeatedRow);

@@ -34,7 +34,7 @@ pub(crate) fn four(s: &[u8], at: usize) -> u32 {
     if s.len() - 4 < at {
         return 0;
     }
-    frame::number_at(s, at, 4) as u32
+    auxiliary_header::number_at(s, at, 4) as u32
 }
 
 pub(crate) fn eight(s: &[u8], at: usize) -> u64 {
@@ -44,7 +44,7 @@ pub(crate) fn eight(s: &[u8], at: usize) -> u64 {
     if s.len() - 8 < at {
         return 0;
     }
-    frame::number_at(s, at, 8)
+    auxiliary_header::number_at(s, at, 8)
 }
 
 pub(crate) fn part(s: &[u8], from: usize, to: usize) -> &[u8] {

@@ -19,14 +19,14 @@ use crate::telling::tell_none;
 use crate::telling::tell_number;
 use crate::telling::text;
 use answer::Outcome;
+use auxiliary_header::Auxiliary;
+use auxiliary_header::AuxiliaryRead;
+use auxiliary_header::KeyUsed;
+use auxiliary_header::Sender;
 use control::Control;
 use control::KeyIdentifier;
-use frame::Auxiliary;
-use frame::AuxiliaryRead;
-use frame::KeyUsed;
-use frame::Sender;
-use header::ApsRead;
-use header::NwkRead;
+use frame_header::ApsRead;
+use frame_header::NwkRead;
 use mmo::Digest;
 
 // Present or absent, in a number.
@@ -96,7 +96,7 @@ pub(crate) fn control(case: Case) {
 }
 
 pub(crate) fn nwk_header(case: Case, body: &[u8]) {
-    match header::nwk(first_in(case, body)) {
+    match frame_header::nwk(first_in(case, body)) {
         NwkRead::Cut => tell_only(case.show, 2),
         NwkRead::Whole(h) => {
             tell_answer(case.show, 0, 0, h.len);
@@ -109,7 +109,7 @@ pub(crate) fn nwk_header(case: Case, body: &[u8]) {
 }
 
 pub(crate) fn aps_header(case: Case, body: &[u8]) {
-    match header::aps(first_in(case, body)) {
+    match frame_header::aps(first_in(case, body)) {
         ApsRead::Cut => tell_only(case.show, 2),
         ApsRead::NotTaken => tell_only(case.show, 7),
         ApsRead::Whole(h) => {
@@ -159,7 +159,7 @@ fn tell_auxiliary(show: u8, a: Auxiliary) {
 }
 
 pub(crate) fn read_auxiliary(case: Case, body: &[u8]) {
-    match frame::read(first_in(case, body), 0) {
+    match auxiliary_header::read(first_in(case, body), 0) {
         AuxiliaryRead::Cut => tell_only(case.show, 2),
         AuxiliaryRead::Whole(a) => tell_auxiliary(case.show, a),
     }
@@ -172,7 +172,7 @@ pub(crate) fn write_auxiliary(case: Case, space: &mut [u8]) {
         text(b"bad\n");
         return;
     }
-    let outcome = frame::write(
+    let outcome = auxiliary_header::write(
         &mut space[..room],
         0,
         Control { byte: case.control },

@@ -13,9 +13,9 @@ use Rattle.answer.specs.declared.Answer.the-variants.{Done}
 use Rattle.answer.specs.declared.Refusal.{Refusal}
 use Rattle.answer.specs.declared.Refusal.the-variants.{Unsupported, NoNetworkKey, CounterExhausted, NoRoom}
 use Rattle.answer.specs.declared.Outcome.the-variants as outcome
-use Rattle.header.specs.declared.network.NwkRead.{NwkRead}
-use Rattle.header.specs.declared.network.NwkRead.the-variants as nwk
-use Rattle.header.specs.Nwk.{nwkControl, nwkKind, nwkLength, nwkOf}
+use Rattle.frame_header.specs.declared.network.NwkRead.{NwkRead}
+use Rattle.frame_header.specs.declared.network.NwkRead.the-variants as nwk
+use Rattle.frame_header.specs.Nwk.{nwkControl, nwkKind, nwkLength, nwkOf}
 use Rattle.nib.specs.declared.outgoing.Outgoing.{Outgoing}
 use Rattle.nib.specs.declared.outgoing.Taken.{Taken}
 use Rattle.nib.specs.Keys.{keyFound}

@@ -9,13 +9,13 @@ use Rattle.laws.specs.Numbers.{bit}
 use Rattle.laws.specs.Parts.{part-rest, put-two}
 use Rattle.control.specs.Control.{sent, hasSender, hasNumber}
 use Rattle.control.specs.declared.KeyIdentifier.the-variants.{Network}
-use Rattle.frame.specs.Auxiliary.{auxiliaryOctets}
-use Rattle.frame.specs.AuxiliaryLaws.{octets-length}
+use Rattle.auxiliary_header.specs.Auxiliary.{auxiliaryOctets}
+use Rattle.auxiliary_header.specs.AuxiliaryLaws.{octets-length}
 use Rattle.nib.specs.declared.keys.KeyFound.{KeyFound}
 use Rattle.nib.specs.Keys.{keyFound}
 use Rattle.protection.specs.Protection.{securedOctets}
-use Rattle.frame.specs.Written.{written}
-use Rattle.frame.specs.WrittenLaws.{put}
+use Rattle.auxiliary_header.specs.Written.{written}
+use Rattle.auxiliary_header.specs.WrittenLaws.{put}
 use Rattle.securing.specs.SecureNwk.{nwkAdded, nwkHeaders, nwkOnAir}
 use Rattle.nib.specs.declared.state.Nwk.{Nwk}
 

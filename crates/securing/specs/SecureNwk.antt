@@ -10,10 +10,10 @@ use Rattle.answer.specs.declared.Refusal.{Refusal}
 use Rattle.answer.specs.declared.Refusal.the-variants.{Unsupported, Cut, NoNetworkKey, CounterExhausted, NoRoom}
 use Rattle.control.specs.Control.{sent}
 use Rattle.control.specs.declared.KeyIdentifier.the-variants.{Network}
-use Rattle.frame.specs.Auxiliary.{auxiliaryOctets}
-use Rattle.header.specs.declared.network.NwkRead.{NwkRead}
-use Rattle.header.specs.declared.network.NwkRead.the-variants as nwk
-use Rattle.header.specs.Nwk.{nwkOf}
+use Rattle.auxiliary_header.specs.Auxiliary.{auxiliaryOctets}
+use Rattle.frame_header.specs.declared.network.NwkRead.{NwkRead}
+use Rattle.frame_header.specs.declared.network.NwkRead.the-variants as nwk
+use Rattle.frame_header.specs.Nwk.{nwkOf}
 use Rattle.nib.specs.declared.outgoing.Outgoing.{Outgoing}
 use Rattle.nib.specs.Keys.{keyFound}
 use Rattle.nib.specs.Sending.{mayUse}

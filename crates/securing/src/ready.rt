@@ -3,13 +3,13 @@ ghost use mathlib.Core.Path.{_≡_};
 ghost use mathlib.Core.Bool.{false};
 ghost use Prim.Native.Nat.{_≤_};
 ghost use lib.ListN.{length};
-ghost use Rattle.header.specs.declared.network.NwkRead.the-variants.{Whole};
+ghost use Rattle.frame_header.specs.declared.network.NwkRead.the-variants.{Whole};
 ghost use Rattle.securing.specs.Ready.{readyFramed, readyFor};
 use crate::writing::AUXILIARY;
 use answer::Answer;
 use answer::Refusal;
-use header::NwkHeader;
-use header::NwkRead;
+use frame_header::NwkHeader;
+use frame_header::NwkRead;
 use nib::Nwk;
 
 const LEVEL: u8 = 5;
@@ -81,7 +81,7 @@ pub fn ready_for(nwk: Nwk, next: u32, plain: &[u8], room: usize) -> Ready
     if LARGEST < plain.len() {
         return refuse(Refusal::Unsupported);
     }
-    let NwkRead::Whole(h) = header::nwk(plain) else {
+    let NwkRead::Whole(h) = frame_header::nwk(plain) else {
         return refuse(Refusal::Cut);
     };
     framed(nwk, next, plain.len(), room, h)

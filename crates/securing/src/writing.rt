@@ -19,7 +19,7 @@ fn lay(nwk: Nwk, counter: u32, plain: &[u8], out: &mut [u8], header: usize)
 {
     let payload = header + AUXILIARY;
     bytes::copy(&plain[..header], out);
-    frame::write(
+    auxiliary_header::write(
         out,
         header,
         Control::sent(KeyIdentifier::Network),

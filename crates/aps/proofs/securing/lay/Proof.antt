@@ -4,9 +4,9 @@ use Prim.Native.Nat.{ℕ}
 use native.Mathlib.Omega.{arith}
 use lib.Seq.{length-take-le}
 use borrow.Author.Needs.{needs}
-use Rattle.frame.specs.Written.{written}
+use Rattle.auxiliary_header.specs.Written.{written}
 use Rattle.control.specs.Control.{sent}
-use Rattle.frame.specs.Auxiliary.{auxiliaryOctets}
+use Rattle.auxiliary_header.specs.Auxiliary.{auxiliaryOctets}
 use Rattle.aps.proofs.LayoutLaws.{thirteen, laid}
 use Rattle.aps.proofs.securing.lay.Statement.{statement}
 use Rattle.aps.proofs.securing.lay.Tie as tie

@@ -2,7 +2,7 @@
 use mathlib.Core.Path.{refl}
 use borrow.Author.Needs.{needs}
 use Rattle.control.specs.Control.{sent}
-use Rattle.frame.specs.Auxiliary.{auxiliaryOctets}
+use Rattle.auxiliary_header.specs.Auxiliary.{auxiliaryOctets}
 use Rattle.aps.proofs.LayoutLaws.{thirteen, finished}
 use Rattle.aps.proofs.securing.put.Statement.{statement}
 use Rattle.aps.proofs.securing.put.Tie as tie

@@ -4,7 +4,7 @@ use mathlib.Core.Path.{_≡_, sym, ap, _∙_}
 use native.Mathlib.Omega.{arith}
 use lib.ListN.{getD}
 use borrow.Author.Needs.{needs}
-use Rattle.header.specs.Aps.{isCommand}
+use Rattle.frame_header.specs.Aps.{isCommand}
 use Rattle.aps.proofs.SendingLaws.{header-small}
 use Rattle.aps.proofs.sending.identifier_for.Statement.{statement}
 use Rattle.aps.proofs.sending.identifier_for.Tie as tie
