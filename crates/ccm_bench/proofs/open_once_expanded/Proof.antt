@@ -1,8 +1,8 @@
--- `opening::open_once_expanded` meets its contract. Assumes nothing.
+-- `ccm_bench::open_once_expanded` meets its contract. Assumes nothing.
 use Prim.Native.Nat.{_-_, _≤_}
 use borrow.Author.Needs.{needs}
-use Rattle.opening.proofs.open_once_expanded.Statement.{statement}
-use Rattle.opening.proofs.open_once_expanded.Tie as tie
+use Rattle.ccm_bench.proofs.open_once_expanded.Statement.{statement}
+use Rattle.ccm_bench.proofs.open_once_expanded.Tie as tie
 
 abbrev Inv-loop : tie.InvT-loop
 Inv-loop s rounds at n tag keys nonce frame opened₀ i₀ opened i = (i ≤ rounds) × (opened ≤ i)
