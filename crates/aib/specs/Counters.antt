@@ -14,7 +14,7 @@ use Rattle.aib.specs.declared.counters.Recorded.{Recorded}
 use Rattle.aib.specs.declared.pairs.PairRow.{PairRow}
 use Rattle.aib.specs.declared.pairs.Pairs.{Pairs}
 use Rattle.cells.specs.First.{first, atFirst}
-use Rattle.aib.specs.Pairs.{Link, pairRows, newLink, mayUse}
+use Rattle.aib.specs.Pairs.{PairCell, pairRows, newPair, mayUse}
 
 abbrev pub inUse : Pairs → List PairRow
 inUse pairs = take (pairs .used) (pairs .rows)
@@ -42,8 +42,8 @@ advanced pairs d = cond (ltb 16 (pairs .used)) (notAdvanced Unsupported pairs) (
 
 -- ---- record: a refusal changes nothing; else the device's incoming counter is set; a device not known gets a row as on opening
 
-abbrev pub heard : Option Link → ℕ → Link
-heard none c = newLink c
+abbrev pub heard : Option PairCell → ℕ → PairCell
+heard none c = newPair c
 heard (some p) c = record { attribute = p .attribute; key = p .key; kind = p .kind; outgoing = p .outgoing; incoming = c }
 
 abbrev pub notRecorded : Refusal → Pairs → Recorded

@@ -19,7 +19,7 @@ use Rattle.aib.specs.declared.pairs.PairRow.{PairRow}
 use Rattle.aib.specs.declared.pairs.Pairs.{Pairs}
 use Rattle.cells.specs.First.{firstWhere}
 use Rattle.cells.specs.FirstLaws as laws
-use Rattle.aib.specs.Pairs.{pairRows, rowOf, linkOf, newRow, nothing, mayUse, pairFound, usableFound}
+use Rattle.aib.specs.Pairs.{pairRows, rowOf, cellIn, newRow, nothing, mayUse, pairFound, usableFound}
 use Rattle.aib.specs.Counters.{inUse, raised, notAdvanced, advanced, heard, notRecorded, recorded}
 
 -- ---- searches
@@ -55,7 +55,7 @@ module _ (pairs : Pairs) (d : ℕ) (past : PairRow) (sixteen : length (pairs .ro
       let r = getD (pairs .rows) found-at past in
       let e : r .device ≡ d = eqb-true (r .device) d (laws.passes-used (isRow pairRows d) (pairs .rows) some-used past some-fits h) in
       rw (in-use, lent-cell pairRows (pairs .rows) some-used d past some-fits, lt-ltb found-at some-used h)
-      (λ i. record { found = true; row = rowOf (e i) (linkOf r) })
+      (λ i. record { found = true; row = rowOf (e i) (cellIn r) })
 
   abbrev pub usable-at : ℕ
   usable-at = firstWhere (mayUse d) (take some-used (pairs .rows))
@@ -172,8 +172,8 @@ module _ (pairs : Pairs) (d : ℕ) where
       unfolding recorded roomy
       recorded-old h =
           let q : known .device ≡ d = eqb-true (known .device) d (laws.passes-used (isRow pairRows d) (pairs .rows) (pairs .used) past fits h) in
-          let e : put pairRows (inUse pairs) d (heard (find pairRows (inUse pairs) d) c) ≡ take (pairs .used) (set (pairs .rows) heard-at (rowOf d (heard (some (linkOf known)) c))) =
+          let e : put pairRows (inUse pairs) d (heard (find pairRows (inUse pairs) d) c) ≡ take (pairs .used) (set (pairs .rows) heard-at (rowOf d (heard (some (cellIn known)) c))) =
           lent-put pairRows (pairs .rows) (pairs .used) d past fits (heard (find pairRows (inUse pairs) d) c) (omega arith)
           ∙ rw (lent-cell pairRows (pairs .rows) (pairs .used) d past fits, lt-ltb heard-at (pairs .used) h) in
-          let w = written (pairs .used) (rowOf d (heard (some (linkOf known)) c)) (put pairRows (inUse pairs) d (heard (find pairRows (inUse pairs) d) c)) h fits e in
-          rw (not-over, with-row h, w .0, w .1) (λ i. record { outcome = Done; pairs = record { rows = set (pairs .rows) heard-at (rowOf (q i) (heard (some (linkOf known)) c)); used = pairs .used } })
+          let w = written (pairs .used) (rowOf d (heard (some (cellIn known)) c)) (put pairRows (inUse pairs) d (heard (find pairRows (inUse pairs) d) c)) h fits e in
+          rw (not-over, with-row h, w .0, w .1) (λ i. record { outcome = Done; pairs = record { rows = set (pairs .rows) heard-at (rowOf (q i) (heard (some (cellIn known)) c)); used = pairs .used } })

@@ -31,24 +31,24 @@ abbrev pub trustCenterLinkKey : List ℕ
 trustCenterLinkKey = 90 ∷ 105 ∷ 103 ∷ 66 ∷ 101 ∷ 101 ∷ 65 ∷ 108 ∷ 108 ∷ 105 ∷ 97 ∷ 110 ∷ 99 ∷ 101 ∷ 48 ∷ 57 ∷ []
 
 -- what a row holds but its device
-pub record Link : Type 0 where
+pub record PairCell : Type 0 where
   pub attribute : ℕ
   pub key : List ℕ
   pub kind : ℕ
   pub outgoing : ℕ
   pub incoming : ℕ
 
-abbrev pub linkOf : PairRow → Link
-linkOf r = record { attribute = r .attribute; key = r .key; kind = r .kind; outgoing = r .outgoing; incoming = r .incoming }
+abbrev pub cellIn : PairRow → PairCell
+cellIn r = record { attribute = r .attribute; key = r .key; kind = r .kind; outgoing = r .outgoing; incoming = r .incoming }
 
-abbrev pub rowOf : ℕ → Link → PairRow
+abbrev pub rowOf : ℕ → PairCell → PairRow
 rowOf d p = record { device = d; attribute = p .attribute; key = p .key; kind = p .kind; outgoing = p .outgoing; incoming = p .incoming }
 
 -- a row's key in the table is its device; its cell is the rest
-abbrev pub pairRows : Rows PairRow ℕ Link
+abbrev pub pairRows : Rows PairRow ℕ PairCell
 pairRows = record {
   keyOf = λ r. r .device;
-  cellOf = linkOf;
+  cellOf = cellIn;
   make = rowOf;
   same = eqb;
   key-make = λ d p. refl;
@@ -58,11 +58,11 @@ pairRows = record {
 }
 
 -- what a device that was not known gets on opening
-abbrev pub newLink : ℕ → Link
-newLink counter = record { attribute = verified; key = trustCenterLinkKey; kind = global; outgoing = 0; incoming = counter }
+abbrev pub newPair : ℕ → PairCell
+newPair counter = record { attribute = verified; key = trustCenterLinkKey; kind = global; outgoing = 0; incoming = counter }
 
 abbrev pub newRow : ℕ → ℕ → PairRow
-newRow d counter = rowOf d (newLink counter)
+newRow d counter = rowOf d (newPair counter)
 
 -- ---- searches among the rows in use
 
@@ -70,7 +70,7 @@ abbrev pub nothing : PairFound
 nothing = record { found = false; row = rowOf 0 (record { attribute = 0; key = replicate 16 0; kind = 0; outgoing = 0; incoming = 0 }) }
 
 -- opening: the first row of that device
-abbrev pub answered : ℕ → Option Link → PairFound
+abbrev pub answered : ℕ → Option PairCell → PairFound
 answered d none = nothing
 answered d (some p) = record { found = true; row = rowOf d p }
 

@@ -19,7 +19,7 @@ use Rattle.cells.specs.Lists.{any}
 use Rattle.cells.specs.Rows.{Reaction, leave, become, isRow, hasRow, find, put, room, settle}
 use Rattle.aib.specs.declared.pairs.PairRow.{PairRow}
 use Rattle.aib.specs.declared.pairs.Pairs.{Pairs}
-use Rattle.aib.specs.Pairs.{Link, linkOf, pairRows, answered, pairFound}
+use Rattle.aib.specs.Pairs.{PairCell, cellIn, pairRows, answered, pairFound}
 use Rattle.aib.specs.Counters.{inUse, holding, heard, recorded}
 use Rattle.control.specs.Control.{identifierOf}
 use Rattle.claims.specs.declared.Claim.{Claim}
@@ -34,11 +34,11 @@ use Rattle.aps.specs.Opening.{heldIn, allowed, tried, replied, kept, com
 
 -- ---- the tests before the tag, and the rest
 
-module _ (c : Claim) (held : Option Link) (free : Bool) (b : List ℕ) where
+module _ (c : Claim) (held : Option PairCell) (free : Bool) (b : List ℕ) where
   abbrev pub chosen : Choice
   chosen = keyFor (identifierOf (c .control .byte)) (linkKey held)
 
-  abbrev pub reaction : Bool → Bool → Bool → Bool → Bool → Reaction Heard Link
+  abbrev pub reaction : Bool → Bool → Bool → Bool → Bool → Reaction Heard PairCell
   reaction repeated behind cut barred right =
       cond repeated (leave (refused CounterRepeated b))
       (cond behind (leave (refused CounterBehind b))
@@ -107,11 +107,11 @@ found-row [] d = refl
 found-row (r ∷ rs) d = at (isRow pairRows d r) (found-row rs d)
   where
     at : (t : Bool) → (answered d (find pairRows rs d)) .found ≡ hasRow pairRows rs d
-        → (answered d (cond t (some (linkOf r)) (find pairRows rs d))) .found ≡ t || hasRow pairRows rs d
+        → (answered d (cond t (some (cellIn r)) (find pairRows rs d))) .found ≡ t || hasRow pairRows rs d
     at true e = refl
     at false e = e
 
-held-found : (d : ℕ) (o : Option Link) → heldIn (answered d o) ≡ o
+held-found : (d : ℕ) (o : Option PairCell) → heldIn (answered d o) ≡ o
 held-found d none = refl
 held-found d (some p) = refl
 
@@ -141,7 +141,7 @@ module _ (pairs : Pairs) (d : ℕ) where
 -- ---- the commit
 
 module _ (pairs : Pairs) (c : Claim) (b : List ℕ) (sixteen : length (pairs .rows) ≡ 16) (few : pairs .used ≤ 16) where
-  abbrev held : Option Link
+  abbrev held : Option PairCell
   held = find pairRows (inUse pairs) (c .sender)
 
   abbrev free : Bool

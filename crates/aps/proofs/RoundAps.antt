@@ -16,7 +16,7 @@ use Rattle.cells.specs.Rows.{become, find, put, room, settle}
 use Rattle.aib.specs.declared.pairs.PairRow.{PairRow}
 use Rattle.aib.specs.declared.pairs.Pairs.{Pairs}
 use Rattle.aib.specs.declared.search.PairFound.{PairFound}
-use Rattle.aib.specs.Pairs.{Link, pairRows, usableFound}
+use Rattle.aib.specs.Pairs.{PairCell, pairRows, usableFound}
 use Rattle.aib.specs.Counters.{inUse, heard}
 use Rattle.control.specs.Control.{sent, hasNumber}
 use Rattle.control.specs.ControlLaws.{sent-identifier, sent-sender}
@@ -63,7 +63,7 @@ not-barred Load link n = refl
 pub record Hears (sender counter : ℕ) (link : List ℕ) (g : Aps) (pairs : Pairs) : Type 0 where
   pub fit : apsUnfit g pairs ≡ false
   pub same-key : linkKey (find pairRows (inUse pairs) sender) ≡ link
-  pub lower : (p : Link) → find pairRows (inUse pairs) sender ≡ some p → p .incoming < counter
+  pub lower : (p : PairCell) → find pairRows (inUse pairs) sender ≡ some p → p .incoming < counter
   pub has-room : room pairRows 16 (inUse pairs) sender ≡ true
 
 module _ (s : Aps) (pairs : Pairs) (d : ℕ) (extended : Bool) (plain out : List ℕ) (start len : ℕ)
@@ -172,14 +172,14 @@ module _ (s : Aps) (pairs : Pairs) (d : ℕ) (extended : Bool) (plain out : List
 
     module _ (g : Aps) (theirs : Pairs) (hears : Hears (s .own) (row .outgoing) (row .key) g theirs) where
       -- the judgement: the counter is above a held one, the tag is there, and it is right
-      abbrev held : Option Link
+      abbrev held : Option PairCell
       held = find pairRows (inUse theirs) (s .own)
 
       -- the headers with level 5, the payload, and the tag
       unfoldable pub opened : List ℕ
       opened = protection.laid key (s .own) (row .outgoing) header headers payload inside
 
-      not-held : (h : Option Link) → held ≡ h → (equals (incoming h) (row .outgoing) ≡ false) × (below (incoming h) (row .outgoing) ≡ false)
+      not-held : (h : Option PairCell) → held ≡ h → (equals (incoming h) (row .outgoing) ≡ false) × (below (incoming h) (row .outgoing) ≡ false)
       not-held none e = (refl, refl)
       not-held (some p) e =
           let l : p .incoming < row .outgoing = hears .lower p e in

@@ -11,7 +11,7 @@ use Rattle.answer.specs.declared.Refusal.the-variants.{Unsupported, Cut, KeyNot
 use Rattle.cells.specs.Rows.{Reaction, leave, become, Settled, find, settle}
 use Rattle.aib.specs.declared.pairs.PairRow.{PairRow}
 use Rattle.aib.specs.declared.pairs.Pairs.{Pairs}
-use Rattle.aib.specs.Pairs.{Link, pairRows, trustCenterLinkKey}
+use Rattle.aib.specs.Pairs.{PairCell, pairRows, trustCenterLinkKey}
 use Rattle.aib.specs.Counters.{inUse, holding, heard}
 use Rattle.control.specs.Control.{identifierOf}
 use Rattle.claims.specs.declared.Claim.{Claim}
@@ -24,18 +24,18 @@ use Rattle.protection.specs.Heard.{Heard, refused, equals, below}
 use Rattle.protection.specs.Protection.{level, tagSize, payloadSize, vouches, openedOctets}
 
 -- an unknown device is tried with the trust centre link key; no counter is held for it
-abbrev pub linkKey : Option Link → List ℕ
+abbrev pub linkKey : Option PairCell → List ℕ
 linkKey none = trustCenterLinkKey
 linkKey (some p) = p .key
 
-abbrev pub incoming : Option Link → Option ℕ
+abbrev pub incoming : Option PairCell → Option ℕ
 incoming none = none
 incoming (some p) = some (p .incoming)
 
 -- Known device and counter equal to its incoming counter: 33; below it: 34. Fewer than 4 bytes left: 2. Wrong tag: 5. Unknown device and no free row: 42.
 -- (A key identifier that chooses no key is 32. No frame comes so far: `apsWho` has refused it, in its place in the order.)
 -- Else 0, with the buffer as for NWK; the device's incoming counter is the frame's.
-unfoldable pub apsJudged : Claim → Option Link → List ℕ → Reaction Heard Link
+unfoldable pub apsJudged : Claim → Option PairCell → List ℕ → Reaction Heard PairCell
 apsJudged c held b =
     let chosen : Choice = keyFor (identifierOf (c .control .byte)) (linkKey held) in
     let key : List ℕ = chosen .key in

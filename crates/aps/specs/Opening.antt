@@ -12,7 +12,7 @@ use Rattle.answer.specs.declared.Refusal.the-variants.{Cut, CounterRepeated, Co
 use Rattle.cells.specs.Rows.{Reaction, leave, become, find, settle}
 use Rattle.aib.specs.declared.pairs.Pairs.{Pairs}
 use Rattle.aib.specs.declared.search.PairFound.{PairFound}
-use Rattle.aib.specs.Pairs.{Link, linkOf, pairRows}
+use Rattle.aib.specs.Pairs.{PairCell, cellIn, pairRows}
 use Rattle.aib.specs.Counters.{inUse, recorded}
 use Rattle.claims.specs.declared.Claim.{Claim}
 use Rattle.protection.specs.Heard.{Heard, refused, equals, below}
@@ -20,8 +20,8 @@ use Rattle.protection.specs.Protection.{tagSize, payloadSize, vouches, openedOc
 use Rattle.aps.specs.OpenAps.{Opened, apsJudged, apsCommitted}
 
 -- the pair of a row that a search found
-abbrev pub heldIn : PairFound → Option Link
-heldIn f = cond (f .found) (some (linkOf (f .row))) none
+abbrev pub heldIn : PairFound → Option PairCell
+heldIn f = cond (f .found) (some (cellIn (f .row))) none
 
 -- the tests before the tag: the counter held for the device, and the frame's size
 unfoldable pub allowed : Claim → Option ℕ → ℕ → Outcome
@@ -39,7 +39,7 @@ tried c key room b =
     (refused TableFull b))
 
 -- what a reaction answers where there is room for a new row, and where there is none
-abbrev pub replied : Bool → Reaction Heard Link → Heard
+abbrev pub replied : Bool → Reaction Heard PairCell → Heard
 replied room (leave out) = out
 replied room (become c out full) = cond room out full
 

@@ -15,7 +15,7 @@ use Rattle.control.specs.Control.{hasSender, hasNumber, identifierOf}
 use Rattle.auxiliary_header.specs.Auxiliary.{auxiliaryAt}
 use Rattle.auxiliary_header.specs.declared.auxiliary.KeyUsed.the-variants as used
 use Rattle.frame_header.specs.Aps.{apsOf, apsTaken, apsLength}
-use Rattle.aib.specs.Pairs.{Link, newLink, newRow, trustCenterLinkKey}
+use Rattle.aib.specs.Pairs.{PairCell, newPair, newRow, trustCenterLinkKey}
 use Rattle.claims.specs.Claims.{apsWho}
 use Rattle.aps.specs.OpenAps.{incoming, apsPlaced, openAps}
 use Rattle.aps.proofs.RoundAps as RoundAps
@@ -39,7 +39,7 @@ pub p6 : ApsHeard (record { level = 5; own = 1 }) (record { rows = newRow one 0 
 unfolding apsWho apsOf apsTaken apsLength auxiliaryAt hasSender hasNumber identifierOf field value bit find
 p6 = record {
   claim = record { key = used.Link; sender = one; counter = 0; control = record { byte = 0x20 }; at = 2; payload = 15 };
-  known = newLink 0;
+  known = newPair 0;
   taken = refl;
   claims = refl;
   row = refl;
@@ -59,7 +59,7 @@ abbrev gateway : aps.Gateway
 gateway = (aps-desks.start 0 aps-desks.both) .state
 
 pub aps-again-example : (let later : aps.Gateway = aps-steps.afterStep (aps-steps.afterStep gateway (aps-steps.opening fromOne)) (aps-steps.advancing one) in
-    Stale (incoming (aps.heldLink later one)) 5 CounterRepeated CounterBehind fromOne (aps.answer later fromOne))
+    Stale (incoming (aps.heldPair later one)) 5 CounterRepeated CounterBehind fromOne (aps.answer later fromOne))
 unfolding openAps apsPlaced find any settle final
 aps-again-example =
     aps-not-again gateway fromOne (aps-steps.advancing one ∷ []) fromOne (claimFrom one) (claimFrom one) one-claims one-claims refl (le-refl 5) (rw (one-claims, one-opens))
@@ -71,6 +71,6 @@ unfolding find room hasRow any
 aps-hears = record {
   fit = refl;
   same-key = refl;
-  lower = λ p e. let n : 5 ≡ p .incoming = ap (λ (q : Link). q .incoming) (Option·some-injective (newLink 5) p e) in omega arith;
+  lower = λ p e. let n : 5 ≡ p .incoming = ap (λ (q : PairCell). q .incoming) (Option·some-injective (newPair 5) p e) in omega arith;
   has-room = refl;
 }

@@ -21,7 +21,7 @@ use Rattle.frame_header.specs.Aps.{apsOf, apsTaken, apsLength}
 use Rattle.answer.specs.declared.Answer.the-variants.{Done}
 use Rattle.answer.specs.declared.Refusal.the-variants.{CounterRepeated, TableFull}
 use Rattle.cells.specs.Rows.{Reaction, leave, become}
-use Rattle.aib.specs.Pairs.{Link, newLink, trustCenterLinkKey}
+use Rattle.aib.specs.Pairs.{PairCell, newPair, trustCenterLinkKey}
 use Rattle.claims.specs.declared.Claim.{Claim}
 use Rattle.claims.specs.declared.Who.the-variants.{Claims}
 use Rattle.claims.specs.Claims.{apsWho}
@@ -63,8 +63,8 @@ abbrev pub claimFrom : ℕ → Claim
 claimFrom sender = record { key = used.Link; sender = sender; counter = 5; control = record { byte = 0x20 }; at = 2; payload = 15 }
 
 -- the frame opens, unless there is no row for it
-abbrev pub opensNew : ℕ → List ℕ → Reaction Heard Link
-opensNew sender b = become (newLink 5) (record { answer = Done 15 0; frame = openedOctets trustCenterLinkKey sender 5 2 15 b }) (refused TableFull b)
+abbrev pub opensNew : ℕ → List ℕ → Reaction Heard PairCell
+opensNew sender b = become (newPair 5) (record { answer = Done 15 0; frame = openedOctets trustCenterLinkKey sender 5 2 15 b }) (refused TableFull b)
 
 pub one-claims : apsWho fromOne ≡ Claims (claimFrom one)
 unfolding apsWho apsOf apsTaken apsLength auxiliaryAt hasSender hasNumber identifierOf field value bit
@@ -83,6 +83,6 @@ unfolding apsJudged keyFor identifierOf
 other-opens = rw other-vouches
 
 -- a second copy is refused
-pub one-again : apsJudged (claimFrom one) (some (newLink 5)) fromOne ≡ leave (refused CounterRepeated fromOne)
+pub one-again : apsJudged (claimFrom one) (some (newPair 5)) fromOne ≡ leave (refused CounterRepeated fromOne)
 unfolding apsJudged
 one-again = refl

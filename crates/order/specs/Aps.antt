@@ -7,7 +7,7 @@ use Rattle.cells.specs.Rows.{find, newKeys}
 use Rattle.cells.specs.Desk.{Desk, openAll}
 use Rattle.aib.specs.declared.pairs.Pairs.{Pairs}
 use Rattle.aib.specs.Counters.{inUse}
-use Rattle.aib.specs.Pairs.{Link, pairRows}
+use Rattle.aib.specs.Pairs.{PairCell, pairRows}
 use Rattle.claims.specs.Claims.{apsWho, senderOf}
 use Rattle.protection.specs.Heard.{Heard}
 use Rattle.aps.specs.declared.state.Aps.{Aps}
@@ -22,8 +22,8 @@ pub record Gateway : Type 0 where
   pub pairs : Pairs
 
 -- all that the row of a device holds, if it has one: attribute, link key, link key type, both counters
-abbrev pub heldLink : Gateway → ℕ → Option Link
-heldLink g device = find pairRows (inUse (g .pairs)) device
+abbrev pub heldPair : Gateway → ℕ → Option PairCell
+heldPair g device = find pairRows (inUse (g .pairs)) device
 
 -- ---- one opening, by `openAps`: what the frame gets, and what the next call finds
 
@@ -55,4 +55,4 @@ newSenders d p = newKeys pairRows (names d) (inUse (d .state .pairs)) p
 pub record Alike (d e : ApsDesk) : Type 0 where
   pub octets : (i : ℕ) → d .buffer i ≡ e .buffer i
   pub answers : (i : ℕ) → d .told i ≡ e .told i
-  pub pairs : (device : ℕ) → heldLink (d .state) device ≡ heldLink (e .state) device
+  pub pairs : (device : ℕ) → heldPair (d .state) device ≡ heldPair (e .state) device

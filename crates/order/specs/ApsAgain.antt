@@ -17,7 +17,7 @@ use Rattle.cells.specs.Rows.{Reaction, find, settle}
 use Rattle.cells.specs.Machine.{final}
 use Rattle.aib.specs.declared.counters.Advanced.{Advanced}
 use Rattle.aib.specs.Counters.{inUse, holding, raised, heard}
-use Rattle.aib.specs.Pairs.{Link, pairRows, mayUse}
+use Rattle.aib.specs.Pairs.{PairCell, pairRows, mayUse}
 use Rattle.claims.specs.declared.Claim.{Claim}
 use Rattle.claims.specs.declared.Who.{Who}
 use Rattle.claims.specs.declared.Who.the-variants.{Told, Claims}
@@ -30,21 +30,21 @@ use Rattle.aps.specs.SecureAps.{Secured}
 use Rattle.cells.specs.Rising.{Rising, stops, rises, AtLeast, one-kept, taken-held}
 use Rattle.cells.specs.Product.{final-keeps}
 use Rattle.order.specs.Stale.{opens, counterOf, Stale, not-above}
-use Rattle.order.specs.Aps.{Gateway, heldLink, answer, after}
+use Rattle.order.specs.Aps.{Gateway, heldPair, answer, after}
 use Rattle.order.specs.ApsSent as sends
 use Rattle.order.specs.ApsRows.{raising-incoming, raising-length}
 use Rattle.order.specs.ApsSteps.{Step, opening, securing, advancing, afterStep}
 use Rattle.order.specs.ApsOrder.{reaction, Good, taken-good, stays-good, machine}
 use Rattle.order.specs.ApsOrder as taken
 
-heard-counter : (held : Option Link) (n : ℕ) → (heard held n) .incoming ≡ n
+heard-counter : (held : Option PairCell) (n : ℕ) → (heard held n) .incoming ≡ n
 heard-counter none n = refl
 heard-counter (some p) n = refl
 
-rising : (c : Claim) (held : Option Link) (b : List ℕ) → Rising (λ p. p .incoming) opens (c .counter) held (apsJudged c held b)
+rising : (c : Claim) (held : Option PairCell) (b : List ℕ) → Rising (λ p. p .incoming) opens (c .counter) held (apsJudged c held b)
 unfolding apsJudged
 rising c held b =
-    let S : Reaction Heard Link → Type 0 = Rising (λ (p : Link). p .incoming) opens (c .counter) held in
+    let S : Reaction Heard PairCell → Type 0 = Rising (λ (p : PairCell). p .incoming) opens (c .counter) held in
     either S (equals (incoming held) (c .counter)) (stops _ refl)
     (which S (below (incoming held) (c .counter)) (λ t. stops _ refl) (λ t.
     either S (ltb (length b) (c .payload + tagSize)) (stops _ refl)
@@ -52,7 +52,7 @@ rising c held b =
     (either S (not (vouches _ _ _ _ _ b)) (stops _ refl)
     (rises _ _ _ (heard-counter held (c .counter)) (λ p q. not-above (incoming held) (c .counter) t (p .incoming) (ap incoming q)) refl)))))
 
-reacts : (b : List ℕ) (w : Who) (k : ℕ) → senderOf w ≡ some k → (held : Option Link) → Rising (λ p. p .incoming) opens (counterOf w) held (reaction b w held)
+reacts : (b : List ℕ) (w : Who) (k : ℕ) → senderOf w ≡ some k → (held : Option PairCell) → Rising (λ p. p .incoming) opens (counterOf w) held (reaction b w held)
 unfolding reaction
 reacts b (Told a) k e held = absurd (Option·none-ne-some k e)
 reacts b (Claims c) k e held = rising c held b
@@ -67,8 +67,8 @@ opens-good g b = at (apsUnfit (g .aps) (g .pairs)) refl
     at true e f = clash false f refl
     at false e f = taken-good g e
 
-stale : (g : Gateway) → Good g → (b : List ℕ) (c : Claim) → apsWho b ≡ Claims c → (p : Link) → heldLink g (c .sender) ≡ some p → c .counter ≤ p .incoming
-    → Stale (incoming (heldLink g (c .sender))) (c .counter) CounterRepeated CounterBehind b (answer g b)
+stale : (g : Gateway) → Good g → (b : List ℕ) (c : Claim) → apsWho b ≡ Claims c → (p : PairCell) → heldPair g (c .sender) ≡ some p → c .counter ≤ p .incoming
+    → Stale (incoming (heldPair g (c .sender))) (c .counter) CounterRepeated CounterBehind b (answer g b)
 unfolding apsPlaced apsJudged settle
 stale g good b c claims p holds low = record {
   held = p .incoming;
@@ -81,7 +81,7 @@ stale g good b c claims p holds low = record {
 -- what is held for a sender through any calls
 record Holds (sender h : ℕ) (g : Gateway) : Type 0 where
   good : Good g
-  least : AtLeast (λ (p : Link). p .incoming) opens h (heldLink g sender)
+  least : AtLeast (λ (p : PairCell). p .incoming) opens h (heldPair g sender)
 
 -- a row whose outgoing counter was raised keeps its incoming one
 raised-holds : (g : Gateway) (device sender h : ℕ) → Holds sender h g
@@ -96,8 +96,8 @@ raised-holds g device sender h p =
     same : incoming (find pairRows (atFirst (mayUse device) raised (inUse (g .pairs))) sender) ≡ some (p .least .cell .incoming)
     same = raising-incoming device sender (inUse (g .pairs)) ∙ ap incoming (p .least .is)
 
-    at : (o : Option Link) → find pairRows (atFirst (mayUse device) raised (inUse (g .pairs))) sender ≡ o
-        → AtLeast (λ (p : Link). p .incoming) opens h o
+    at : (o : Option PairCell) → find pairRows (atFirst (mayUse device) raised (inUse (g .pairs))) sender ≡ o
+        → AtLeast (λ (p : PairCell). p .incoming) opens h o
     at none e = absurd (Option·none-ne-some _ (sym (ap incoming e) ∙ same))
     at (some q) e = let n : q .incoming ≡ p .least .cell .incoming = Option·some-injective _ _ (sym (ap incoming e) ∙ same) in record { cell = q; is = refl; up = omega (arith, p .least .up) }
 
@@ -126,13 +126,13 @@ pub not-again : (g : Gateway) (frame : List ℕ) (between : List Step) (again : 
     → c′ .counter ≤ c .counter
     → opens (answer g frame) ≡ true
     → (let later : Gateway = final afterStep (afterStep g (opening frame)) between in
-    Stale (incoming (heldLink later (c′ .sender))) (c′ .counter) CounterRepeated CounterBehind again (answer later again))
+    Stale (incoming (heldPair later (c′ .sender))) (c′ .counter) CounterRepeated CounterBehind again (answer later again))
 unfolding machine
 not-again g frame between again c c′ first second same low done =
     let good = opens-good g frame done in
-    let held : AtLeast (λ (p : Link). p .incoming) opens (c .counter) (heldLink (after g frame) (c .sender)) =
+    let held : AtLeast (λ (p : PairCell). p .incoming) opens (c .counter) (heldPair (after g frame) (c .sender)) =
     rw (ap counterOf first) at (taken-held (λ p. p .incoming) opens machine (λ b. counterOf (apsWho b)) (λ b. reacts b (apsWho b)) g good frame (c .sender) (ap senderOf first) done) in
     let now = final-keeps afterStep (Holds (c .sender) (c .counter)) (keeps (c .sender) (c .counter)) (after g frame) between
     (record { good = stays-good g frame good; least = held }) in
     let later : Gateway = final afterStep (afterStep g (opening frame)) between in
-    stale later (now .good) again c′ second (now .least .cell) (ap (heldLink later) same ∙ now .least .is) (le-trans low (now .least .up))
+    stale later (now .good) again c′ second (now .least .cell) (ap (heldPair later) same ∙ now .least .is) (le-trans low (now .least .up))

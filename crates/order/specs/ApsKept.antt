@@ -14,7 +14,7 @@ use Rattle.cells.specs.ListLaws.{either, neither}
 use Rattle.cells.specs.Rows.{find}
 use Rattle.aib.specs.declared.pairs.Pairs.{Pairs}
 use Rattle.aib.specs.Counters.{inUse}
-use Rattle.aib.specs.Pairs.{Link, pairRows}
+use Rattle.aib.specs.Pairs.{PairCell, pairRows}
 use Rattle.claims.specs.declared.Claim.{Claim}
 use Rattle.claims.specs.declared.Who.{Who}
 use Rattle.claims.specs.declared.Who.the-variants.{Told, Claims}
@@ -30,7 +30,7 @@ use Rattle.order.specs.Kept.{NotDone, Tame, stops, opens, settle-kept, o
 
 -- ---- opening APS
 
-aps-tame : (c : Claim) (held : Option Link) (b : List ℕ) → Tame b (apsJudged c held b)
+aps-tame : (c : Claim) (held : Option PairCell) (b : List ℕ) → Tame b (apsJudged c held b)
 unfolding apsJudged
 aps-tame c held b =
     either (Tame b) (equals (incoming held) (c .counter)) (stops _)

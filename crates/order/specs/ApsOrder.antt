@@ -19,7 +19,7 @@ use Rattle.cells.specs.Order.{any-order}
 use Rattle.cells.specs.Still.{still-alike}
 use Rattle.aib.specs.declared.pairs.PairRow.{PairRow}
 use Rattle.aib.specs.Counters.{inUse}
-use Rattle.aib.specs.Pairs.{Link, pairRows}
+use Rattle.aib.specs.Pairs.{PairCell, pairRows}
 use Rattle.claims.specs.declared.Who.{Who}
 use Rattle.claims.specs.declared.Who.the-variants.{Told, Claims}
 use Rattle.claims.specs.Claims.{apsWho, senderOf}
@@ -29,7 +29,7 @@ use Rattle.order.specs.Frames.{leaves, says}
 use Rattle.order.specs.Aps.{Gateway, answer, after, ApsDesk, opened, names, newSenders, Alike}
 
 -- what a frame does to its sender's row, by what its headers say and what is held
-unfoldable pub reaction : List ℕ → Who → Option Link → Reaction Heard Link
+unfoldable pub reaction : List ℕ → Who → Option PairCell → Reaction Heard PairCell
 reaction b (Told a) held = leave (record { answer = a; frame = b })
 reaction b (Claims c) held = apsJudged c held b
 
@@ -81,7 +81,7 @@ module _ (g : Gateway) (b : List ℕ) (h : Good g) where
   stays-good = record { level = h .level; fits = rw opening (stays-placed (apsWho b)) }
 
 -- THE MACHINE
-unfoldable pub machine : Machine Gateway (List ℕ) Heard PairRow ℕ Link
+unfoldable pub machine : Machine Gateway (List ℕ) Heard PairRow ℕ PairCell
 machine = record {
   answer = answer;
   after = after;

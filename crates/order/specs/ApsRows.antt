@@ -13,7 +13,7 @@ use Rattle.cells.specs.ListLaws.{clash, either}
 use Rattle.cells.specs.Rows.{Reaction, find, put, room, settle}
 use Rattle.aib.specs.declared.pairs.PairRow.{PairRow}
 use Rattle.aib.specs.Counters.{inUse, raised, heard}
-use Rattle.aib.specs.Pairs.{Link, linkOf, rowOf, pairRows, verified, mayUse}
+use Rattle.aib.specs.Pairs.{PairCell, cellIn, rowOf, pairRows, verified, mayUse}
 use Rattle.claims.specs.declared.Claim.{Claim}
 use Rattle.claims.specs.declared.Who.{Who}
 use Rattle.claims.specs.declared.Who.the-variants.{Told, Claims}
@@ -33,13 +33,13 @@ pub data Heard-rows (rs : List PairRow) : List PairRow → Type 0 where
   hears : (device counter : ℕ) → Heard-rows rs (put pairRows rs device (heard (find pairRows rs device) counter))
 
 module _ (rs : List PairRow) (c : Claim) (b : List ℕ) where
-  abbrev settles : Reaction Heard Link → Type 0
+  abbrev settles : Reaction Heard PairCell → Type 0
   settles r = Heard-rows rs ((settle pairRows 16 rs (c .sender) r) .rows)
 
   judged-rows : settles (apsJudged c (find pairRows rs (c .sender)) b)
   unfolding apsJudged settle
   judged-rows =
-      let held : Option Link = find pairRows rs (c .sender) in
+      let held : Option PairCell = find pairRows rs (c .sender) in
       either settles (equals (incoming held) (c .counter)) same
       (either settles (below (incoming held) (c .counter)) same
       (either settles (ltb (length b) (c .payload + tagSize)) same
@@ -67,12 +67,12 @@ hears-outgoing to device counter (r ∷ rs) = at (eqb (r .device) device) refl (
     later = put pairRows rs device (heard (find pairRows rs device) counter)
 
     at : (t : Bool) → eqb (r .device) device ≡ t → outgoingIn (first (mayUse to) later) ≡ outgoingIn (first (mayUse to) rs)
-        → outgoingIn (first (mayUse to) (cond t (rowOf device (heard (cond t (some (linkOf r)) (find pairRows rs device)) counter) ∷ rs) (r ∷ put pairRows rs device (heard (cond t (some (linkOf r)) (find pairRows rs device)) counter))))
+        → outgoingIn (first (mayUse to) (cond t (rowOf device (heard (cond t (some (cellIn r)) (find pairRows rs device)) counter) ∷ rs) (r ∷ put pairRows rs device (heard (cond t (some (cellIn r)) (find pairRows rs device)) counter))))
         ≡ outgoingIn (cond (mayUse to r) (some r) (first (mayUse to) rs))
     at true e ih =
         rw (← eqb-true (r .device) device e) (by (mayUse to r))
       where
-        by : (u : Bool) → outgoingIn (cond u (some (rowOf (r .device) (heard (some (linkOf r)) counter))) (first (mayUse to) rs)) ≡ outgoingIn (cond u (some r) (first (mayUse to) rs))
+        by : (u : Bool) → outgoingIn (cond u (some (rowOf (r .device) (heard (some (cellIn r)) counter))) (first (mayUse to) rs)) ≡ outgoingIn (cond u (some r) (first (mayUse to) rs))
         by true = refl
         by false = refl
     at false e ih = by (mayUse to r)
@@ -124,15 +124,15 @@ module _ (device : ℕ) where
   raising-incoming k (r ∷ rs) = at (mayUse device r) (raising-incoming k rs)
     where
       at : (t : Bool) → incoming (find pairRows (atFirst (mayUse device) raised rs) k) ≡ incoming (find pairRows rs k)
-          → incoming (find pairRows (cond t (raised r ∷ rs) (r ∷ atFirst (mayUse device) raised rs)) k) ≡ incoming (cond (eqb (r .device) k) (some (linkOf r)) (find pairRows rs k))
+          → incoming (find pairRows (cond t (raised r ∷ rs) (r ∷ atFirst (mayUse device) raised rs)) k) ≡ incoming (cond (eqb (r .device) k) (some (cellIn r)) (find pairRows rs k))
       at true ih = by (eqb (r .device) k)
         where
-          by : (u : Bool) → incoming (cond u (some (linkOf (raised r))) (find pairRows rs k)) ≡ incoming (cond u (some (linkOf r)) (find pairRows rs k))
+          by : (u : Bool) → incoming (cond u (some (cellIn (raised r))) (find pairRows rs k)) ≡ incoming (cond u (some (cellIn r)) (find pairRows rs k))
           by true = refl
           by false = refl
       at false ih = by (eqb (r .device) k)
         where
-          by : (u : Bool) → incoming (cond u (some (linkOf r)) (find pairRows (atFirst (mayUse device) raised rs) k)) ≡ incoming (cond u (some (linkOf r)) (find pairRows rs k))
+          by : (u : Bool) → incoming (cond u (some (cellIn r)) (find pairRows (atFirst (mayUse device) raised rs) k)) ≡ incoming (cond u (some (cellIn r)) (find pairRows rs k))
           by true = refl
           by false = ih
 

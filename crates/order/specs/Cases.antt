@@ -29,7 +29,7 @@ use Rattle.nib.specs.Sending.{taken, restarted}
 use Rattle.nib.specs.Cases as nib
 use Rattle.aib.specs.declared.pairs.Pairs.{Pairs}
 use Rattle.aib.specs.Counters.{inUse}
-use Rattle.aib.specs.Pairs.{Link, pairRows}
+use Rattle.aib.specs.Pairs.{PairCell, pairRows}
 use Rattle.claims.specs.declared.Claim.{Claim}
 use Rattle.claims.specs.declared.Who.{Who}
 use Rattle.claims.specs.declared.Who.the-variants.{Told, Claims}
@@ -65,7 +65,7 @@ pub record NwkOpens (s : Nwk) (rows : List CounterRow) (used : ℕ) (b : List �
 -- As `NwkHeard`, for an APS frame of a known device.
 pub record ApsHeard (s : Aps) (pairs : Pairs) (b : List ℕ) (held counter : ℕ) : Type 0 where
   pub claim : Claim
-  pub known : Link
+  pub known : PairCell
   pub taken : apsUnfit s pairs ≡ false
   pub claims : apsWho b ≡ Claims claim
   pub row : find pairRows (inUse pairs) (claim .sender) ≡ some known

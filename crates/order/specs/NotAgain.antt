@@ -38,5 +38,5 @@ pub aps-not-again : (g : aps.Gateway) (frame : List ℕ) (between : List aps-ste
     → c′ .counter ≤ c .counter
     → opens (aps.answer g frame) ≡ true
     → (let later : aps.Gateway = final aps-steps.afterStep (aps-steps.afterStep g (aps-steps.opening frame)) between in
-    Stale (incoming (aps.heldLink later (c′ .sender))) (c′ .counter) CounterRepeated CounterBehind again (aps.answer later again))
+    Stale (incoming (aps.heldPair later (c′ .sender))) (c′ .counter) CounterRepeated CounterBehind again (aps.answer later again))
 aps-not-again = aps-proof.not-again

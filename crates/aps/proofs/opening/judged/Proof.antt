@@ -2,7 +2,7 @@
 use mathlib.Core.Path.{_≡_, sym, ap, ap₂, _∙_}
 use mathlib.Core.Option.{Option}
 use borrow.Author.Needs.{needs}
-use Rattle.aib.specs.Pairs.{Link}
+use Rattle.aib.specs.Pairs.{PairCell}
 use Rattle.claims.specs.declared.Claim.{Claim}
 use Rattle.control.specs.Control.{identifierOf}
 use Rattle.protection.specs.Keys.{Choice, keyFor}
@@ -21,7 +21,7 @@ module _ (c : tie.After-key-for) where
   abbrev claim : Claim
   claim = start .args .claim
 
-  abbrev held : Option Link
+  abbrev held : Option PairCell
   held = heldIn (start .args .held)
 
   is-allowed : Allowed claim held (start .args .room) (start .args .frame .now)
