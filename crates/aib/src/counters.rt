@@ -7,14 +7,14 @@ use crate::search::{place_of, usable_place};
 use answer::{Outcome, Refusal};
 
 // The counter taken (0 where the outcome is a refusal), and the pairs after it.
-#[derive(Drop)]
+#[derive(Clone, Copy)]
 pub struct Advanced {
     pub outcome: Outcome,
     pub counter: u32,
     pub pairs: Pairs,
 }
 
-#[derive(Drop)]
+#[derive(Clone, Copy)]
 pub struct Recorded {
     pub outcome: Outcome,
     pub pairs: Pairs,

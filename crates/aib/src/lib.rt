@@ -1,5 +1,7 @@
 // What the application layer remembers (aps/aib of the Rust; document 01, 'The state'): for each device the link key shared with
 // it, and the counters of both directions.
+#![tactic(auto)]
+
 mod counters;
 mod pairs;
 mod search;

@@ -20,7 +20,7 @@ pub const TRUST_CENTER_LINK_KEY: [u8; 16] = [
 ];
 
 #[repr(C)]
-#[derive(Drop)]
+#[derive(Clone, Copy)]
 pub struct PairRow {
     pub device: u64,
     pub attribute: u8,
@@ -32,7 +32,7 @@ pub struct PairRow {
 
 // Of the rows the first `used` are in use.
 #[repr(C)]
-#[derive(Drop)]
+#[derive(Clone, Copy)]
 pub struct Pairs {
     pub rows: [PairRow; 16],
     pub used: usize,

@@ -7,7 +7,7 @@ ghost use Rattle.aib.specs.Pairs.{nothing, pair_rows, may_use, pair_found, usabl
 use crate::pairs::{PairRow, Pairs, VERIFIED};
 
 // A row of zeros where none is found.
-#[derive(Drop)]
+#[derive(Clone, Copy)]
 pub struct PairFound {
     pub found: bool,
     pub row: PairRow,

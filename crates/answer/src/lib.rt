@@ -1,9 +1,11 @@
 // What a call answers, and its number: document 01's, with the finer ones of request W-201 (document 02).
+#![tactic(auto)]
+
 ghost use Rattle.std.specs.Prelude.{◌≡◌};
 ghost use Rattle.answer.specs.Numbers.{number, outcome_number, told};
 
 // Why a call is refused: a case for each reason.
-#[derive(Drop)]
+#[derive(Clone, Copy)]
 pub enum Refusal {
     // header, command, auxiliary header or tag cut short
     Cut,
@@ -36,14 +38,14 @@ pub enum Refusal {
 }
 
 // What a call that only does its work or refuses answers.
-#[derive(Drop)]
+#[derive(Clone, Copy)]
 pub enum Outcome {
     Done,
     Refused(Refusal),
 }
 
 // What opening and securing answer. Plain: the frame's security bit is clear.
-#[derive(Drop)]
+#[derive(Clone, Copy)]
 pub enum Answer {
     Done { start: usize, len: usize },
     Plain { start: usize, len: usize },
@@ -52,7 +54,7 @@ pub enum Answer {
 
 // The answer's number, and the start and length that go with it.
 #[repr(C)]
-#[derive(Drop)]
+#[derive(Clone, Copy)]
 pub struct Told {
     pub number: u8,
     pub start: usize,

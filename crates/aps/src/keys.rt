@@ -13,7 +13,7 @@ fn hashed(link: [u8; 16], octet: u8) -> [u8; 16]
 }
 
 // A key, or a refusal, which has a key of zeros.
-#[derive(Drop)]
+#[derive(Clone, Copy)]
 pub(crate) struct KeyChoice {
     pub refused: bool,
     pub key: [u8; 16],

@@ -1,4 +1,6 @@
 // Opening and securing APS frames (security/mod.rs of the Rust; document 01, 'Order of checks').
+#![tactic(auto)]
+
 mod keys;
 mod opening;
 mod securing;

@@ -10,7 +10,7 @@ use aib::{PairFound, Pairs, TRUST_CENTER_LINK_KEY};
 use answer::{Answer, Outcome, Refusal};
 use claims::{Claim, Who};
 
-#[derive(Drop)]
+#[derive(Clone, Copy)]
 pub struct OpenedAps {
     pub answer: Answer,
     pub pairs: Pairs,

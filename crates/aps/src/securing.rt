@@ -12,7 +12,7 @@ use answer::Answer;
 use control::{Control, KeyIdentifier};
 use frame_header::ApsControl;
 
-#[derive(Drop)]
+#[derive(Clone, Copy)]
 pub struct SecuredAps {
     pub answer: Answer,
     pub pairs: Pairs,

@@ -11,7 +11,7 @@ use control::KeyIdentifier;
 use frame_header::ApsControl;
 
 // The key by which a frame is secured, or why it is not.
-#[derive(Drop)]
+#[derive(Clone, Copy)]
 pub(crate) enum Chosen {
     Key(KeyIdentifier),
     Refused(Refusal),

@@ -10,14 +10,14 @@ use crate::numbers::{number_at, put};
 use answer::{Outcome, Refusal};
 use control::{Control, KeyIdentifier};
 
-#[derive(Drop)]
+#[derive(Clone, Copy)]
 pub enum Sender {
     Address(u64),
     Absent,
 }
 
 // The key that a frame names. Only a network key has a number.
-#[derive(Drop)]
+#[derive(Clone, Copy)]
 pub enum KeyUsed {
     Link,
     Network(u8),
@@ -25,7 +25,7 @@ pub enum KeyUsed {
     Load,
 }
 
-#[derive(Drop)]
+#[derive(Clone, Copy)]
 pub struct Auxiliary {
     pub control: Control,
     pub counter: u32,
@@ -35,7 +35,7 @@ pub struct Auxiliary {
     pub next: usize,
 }
 
-#[derive(Drop)]
+#[derive(Clone, Copy)]
 pub enum AuxiliaryRead {
     Whole(Auxiliary),
     Cut,

@@ -1,4 +1,6 @@
 // The auxiliary header and the nonce (ZB 4.5.1, 4.5.2.2; document 01, Layouts).
+#![tactic(auto)]
+
 mod auxiliary;
 mod nonces;
 mod numbers;

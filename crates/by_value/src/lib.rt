@@ -1,5 +1,7 @@
 // The counter rows and the outgoing counter by value, for callers that lend no struct. A function over rows lends its own copy to
 // the function of the same name in `counter_rows`, and hands the copy back.
+#![tactic(auto)]
+
 ghost use Rattle.std.specs.Prelude.{◌≡◌};
 ghost use Rattle.nib.specs.Counters.{pair, held_for, recorded, settled, forgotten};
 ghost use Rattle.nib.specs.Sending.{taken};
@@ -10,7 +12,7 @@ use counter_rows::{forget, held, settle};
 use nib::{Change, CounterRow, Outgoing, Standing};
 
 // What `settle` and `forget` answer, and the counter rows after it.
-#[derive(Drop)]
+#[derive(Clone, Copy)]
 pub struct RecordedWith {
     pub rows: [CounterRow; 64],
     pub used: usize,
@@ -65,7 +67,7 @@ pub fn held_with(rows: [CounterRow; 64], used: usize, number: u8, sender: u64) -
 }
 
 // What taking answers, and the outgoing counter after it.
-#[derive(Drop)]
+#[derive(Clone, Copy)]
 pub struct TakenWith {
     pub outcome: Outcome,
     pub counter: u32,

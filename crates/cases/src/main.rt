@@ -1,6 +1,8 @@
 // Document 01's cases and those of W-207, run through the public functions: a line each, compared with `stdout`. P4's paddings are seen by the hashes of
 // messages of those lengths. `stdin` holds the frames one after the other, all of 27 bytes but the last: those of a logger with address
 // 0x0011223344556677 under the key 0x40 to 0x4F. tools/cases.py made both files, over OpenSSL's AES and CCM.
+#![tactic(auto)]
+
 use aib::{PairRow, Pairs};
 use aps::Aps;
 use control::{Control, KeyIdentifier};

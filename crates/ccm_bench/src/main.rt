@@ -1,6 +1,8 @@
 // Opens one frame many times, for bench/ccm to count the instructions of. Standard input: rounds (2 bytes, low first), 1 to
 // expand the key each time or 0 to expand it once, then the lengths of associated data, payload and tag, the key, the nonce and
 // the frame. All are read, so that the compiler knows none of them. It writes how often the frame opened.
+#![tactic(auto)]
+
 ghost use Rattle.std.specs.Prelude.{◌<◌, ◌≤◌};
 
 use answer::Outcome;

@@ -1,4 +1,6 @@
 // What a frame's headers settle, and what it claims where they do not, before anything vouches for it (security/mod.rs of the Rust).
+#![tactic(auto)]
+
 ghost use Rattle.std.specs.Prelude.{◌≡◌};
 ghost use Rattle.auxiliary_header.specs.Auxiliary.{auxiliary_at};
 ghost use Rattle.claims.specs.Claims.{claimed, is_network, number_of, nwk_named, nwk_auxiliary, nwk_who, aps_named, aps_auxiliary, aps_who};
@@ -10,7 +12,7 @@ use frame_header::{ApsRead, NwkRead};
 use nib::NetworkKeys;
 
 // Sender, counter and key as the auxiliary header has them; `at` is the place of its control byte, `payload` the place after it.
-#[derive(Drop)]
+#[derive(Clone, Copy)]
 pub struct Claim {
     pub key: KeyUsed,
     pub sender: u64,
@@ -21,7 +23,7 @@ pub struct Claim {
 }
 
 // Either the answer is settled by the headers, or the frame claims to be somebody's.
-#[derive(Drop)]
+#[derive(Clone, Copy)]
 pub enum Who {
     Told(Answer),
     Claims(Claim),

@@ -1,15 +1,17 @@
 // The control byte (ZB 4.5.1.1): bits 0 to 2 level, 3 and 4 key identifier, 5 to 7 whether a sender is present.
+#![tactic(auto)]
+
 ghost use Rattle.std.specs.Prelude.{◌≡◌};
 ghost use Rattle.tables.specs.Levels.{tag_length};
 ghost use Rattle.control.specs.Control.{level, filled, identifier_of, has_sender, has_number, sent};
 
-#[derive(Drop)]
+#[derive(Clone, Copy)]
 pub struct Control {
     pub byte: u8,
 }
 
 // ZB 4.5.1.1.2: numbers 0 to 3.
-#[derive(Drop)]
+#[derive(Clone, Copy)]
 pub enum KeyIdentifier {
     Link,
     Network,

@@ -1,5 +1,7 @@
 // Taking the next outgoing counter (document 01, 'Called alone'; ZB 4.3.4): the caller's record is lent, the next number is left
 // in it and the old one is handed back.
+#![tactic(auto)]
+
 ghost use Rattle.std.specs.Prelude.{◌≡◌};
 ghost use Rattle.nib.specs.Sending.{took, taken};
 

@@ -1,5 +1,7 @@
 // The counters heard, in the caller's rows (document 01, 'The state' and 'Called alone'; ZB table 4-4). The rows are lent as a slice
 // of structs, of which the first `used` are in use.
+#![tactic(auto)]
+
 ghost use Rattle.std.specs.Prelude.{◌≡◌, ◌≤◌, length, take};
 ghost use Rattle.cells.specs.Rows.{place_of};
 ghost use Rattle.nib.specs.Counters.{counter_rows, pair, left, held_for, settled, forgotten};

@@ -1,6 +1,8 @@
 // The hash of a firmware file: standard input in parts of at most 4,096 bytes, the value in hex on standard output. Where there are more
 // than 536,870,911 bytes it prints `long`, where reading fails `unread`, and no value. What the value is, `mmo` promises; this
 // program only reads and writes. Where standard error is a terminal it shows there how far it is.
+#![tactic(auto)]
+
 use answer::Outcome;
 use libc::{STDERR_FILENO, STDIN_FILENO, STDOUT_FILENO};
 use mmo::Hashing;
@@ -9,7 +11,7 @@ use mmo::Hashing;
 const TURNS: usize = 536870913;
 
 // How a turn ended.
-#[derive(Drop)]
+#[derive(Clone, Copy)]
 enum Came {
     More,
     End,
@@ -17,7 +19,7 @@ enum Came {
     Unread,
 }
 
-#[derive(Drop)]
+#[derive(Clone, Copy)]
 struct Taken {
     came: Came,
     state: Hashing,

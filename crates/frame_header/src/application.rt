@@ -18,19 +18,19 @@ const RESERVED: u8 = 1;
 
 const GROUP: u8 = 3;
 
-#[derive(Drop)]
+#[derive(Clone, Copy)]
 pub struct ApsControl {
     pub byte: u8,
 }
 
-#[derive(Drop)]
+#[derive(Clone, Copy)]
 pub struct ApsHeader {
     pub len: usize,
     pub command: bool,
     pub secured: bool,
 }
 
-#[derive(Drop)]
+#[derive(Clone, Copy)]
 pub enum ApsRead {
     Whole(ApsHeader),
     NotTaken,

@@ -16,7 +16,7 @@ const DESTINATION_IEEE: u16 = 11;
 
 const SOURCE_IEEE: u16 = 12;
 
-#[derive(Drop)]
+#[derive(Clone, Copy)]
 pub struct NwkHeader {
     pub len: usize,
     // the frame type: 0 data, 1 command, 2 and 3 not taken by securing
@@ -24,7 +24,7 @@ pub struct NwkHeader {
     pub secured: bool,
 }
 
-#[derive(Drop)]
+#[derive(Clone, Copy)]
 pub enum NwkRead {
     Whole(NwkHeader),
     Cut,

@@ -1,6 +1,8 @@
 // The frame reader: fields on standard input, a line for each frame on standard output. What it prints is said by `lines` of the crate
 // `reader`; this program only reads and writes. At its end it says on standard error how it went, in one line, since a program has no
 // exit status of its own: the script `frame-reader` makes one of that line.
+#![tactic(auto)]
+
 ghost use Rattle.std.specs.Prelude.{length, ◌≤◌};
 ghost use Rattle.io.specs.Counts.{IsPrefixLen};
 
@@ -8,7 +10,7 @@ use libc::{STDERR_FILENO, STDIN_FILENO, STDOUT_FILENO};
 use reader::{BadField, Event, Fault, Line};
 
 // How many bytes were read, whether there are no more, and whether that is for a read that failed.
-#[derive(Drop)]
+#[derive(Clone, Copy)]
 struct Input {
     count: usize,
     ended: bool,
@@ -16,7 +18,7 @@ struct Input {
 }
 
 // How the run ended.
-#[derive(Drop)]
+#[derive(Clone, Copy)]
 enum Ending {
     AllRead,
     Bad(BadField),

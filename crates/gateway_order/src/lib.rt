@@ -2,3 +2,4 @@
 // what it holds from call to call: `used`, `active` and the rows, or the pairs (gateway/README.md). No code.
 //
 // To read: specs/Calls (what a call is) and InAnyOrder (code-in-any-order), ApsCalls and ApsInAnyOrder (aps-code-in-any-order).
+#![tactic(auto)]

@@ -1,5 +1,7 @@
 // The judgement of an NWK frame that is to be opened (security/mod.rs of the Rust; document 01, 'Order of checks'): it reads the frame, the
 // keys and what is held, and has no row at hand.
+#![tactic(auto)]
+
 ghost use Rattle.std.specs.Prelude.{◌≡◌, not, ◌||◌, eqb, ltb};
 ghost use Rattle.nib.specs.Counters.{capacity};
 ghost use Rattle.claims.proofs.ClaimLaws.{Sized};
@@ -11,7 +13,7 @@ use claims::{Claim, Who};
 use nib::{Change, NetworkKeys, Nwk, Standing};
 
 // Whose row is asked for; number and sender are 0 where the frame claims to be nobody's.
-#[derive(Drop)]
+#[derive(Clone, Copy)]
 pub struct Caller {
     pub who: Who,
     pub number: u8,
@@ -19,7 +21,7 @@ pub struct Caller {
 }
 
 // The answer, the number of the active key after it, and what becomes of the table.
-#[derive(Drop)]
+#[derive(Clone, Copy)]
 pub struct Verdict {
     pub answer: Answer,
     pub active: u8,

@@ -1,4 +1,6 @@
 // The hash of the Zigbee specification, annex B.6 (Matyas-Meyer-Oseas over AES-128), of data that come in parts: start, add, finish.
+#![tactic(auto)]
+
 mod padding;
 mod steps;
 mod stream;

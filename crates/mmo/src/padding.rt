@@ -4,7 +4,7 @@ ghost use Rattle.mmo.specs.Hash.{padding};
 ghost use Rattle.mmo.specs.Stream.{limit};
 
 // The first len of these bytes.
-#[derive(Drop)]
+#[derive(Clone, Copy)]
 pub(crate) struct Padded {
     pub bytes: [u8; 32],
     pub len: usize,

@@ -15,7 +15,7 @@ const LIMIT: usize = 536870911;
 // The value over the whole blocks so far, the bytes that wait, and how many there were in all. Of the tail the first total % 16 bytes
 // wait, so that no state contradicts itself.
 #[repr(C)]
-#[derive(Drop)]
+#[derive(Clone, Copy)]
 pub struct Hashing {
     pub value: [u8; 16],
     pub tail: [u8; 16],
@@ -23,14 +23,14 @@ pub struct Hashing {
 }
 
 // What adding answers.
-#[derive(Drop)]
+#[derive(Clone, Copy)]
 pub struct Added {
     pub outcome: Outcome,
     pub state: Hashing,
 }
 
 // What a hash answers. A refusal's value is 16 zero bytes.
-#[derive(Drop)]
+#[derive(Clone, Copy)]
 pub struct Digest {
     pub outcome: Outcome,
     pub value: [u8; 16],

@@ -3,3 +3,4 @@
 // To read: specs/Needed.antt (needs-active, needs-free-rows, needs-order). They rest on frames whose tags are computed by AES and CCM as they are defined
 // (OnAir), which is most of this crate's check, and on desks with these frames (TwoFrames, Desks). specs/Inhabited.antt: the hypotheses of the theorems
 // over NWK can be met. APS has a crate of its own, `needed_aps`.
+#![tactic(auto)]

@@ -8,7 +8,7 @@ ghost use Rattle.nib.specs.Placing.{searched, nobody, placing, closing};
 use answer::{Outcome, Refusal};
 
 #[repr(C)]
-#[derive(Drop)]
+#[derive(Clone, Copy)]
 pub struct CounterRow {
     pub number: u8,
     pub sender: u64,
@@ -16,7 +16,7 @@ pub struct CounterRow {
 }
 
 // Two things kept apart: whether there is a row, or room for a new one; and the row, zeros where none is found.
-#[derive(Drop)]
+#[derive(Clone, Copy)]
 pub struct Standing {
     pub room: bool,
     pub found: bool,
@@ -24,21 +24,21 @@ pub struct Standing {
 }
 
 // The outcome, and how many rows are in use after it.
-#[derive(Drop)]
+#[derive(Clone, Copy)]
 pub struct Recorded {
     pub outcome: Outcome,
     pub used: usize,
 }
 
 // What becomes of the table: a row, or nothing.
-#[derive(Drop)]
+#[derive(Clone, Copy)]
 pub struct Change {
     pub writes: bool,
     pub row: CounterRow,
 }
 
 // Whether a row is written, and what is answered.
-#[derive(Drop)]
+#[derive(Clone, Copy)]
 pub struct Placement {
     pub writes: bool,
     pub recorded: Recorded,

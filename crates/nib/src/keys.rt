@@ -4,7 +4,7 @@ ghost use Rattle.cells.specs.Rows.{place_of};
 ghost use Rattle.nib.specs.Keys.{key_row, key_rows, key_found};
 
 #[repr(C)]
-#[derive(Drop)]
+#[derive(Clone, Copy)]
 pub struct NetworkKey {
     pub number: u8,
     pub key: [u8; 16],
@@ -12,14 +12,14 @@ pub struct NetworkKey {
 
 // Of the rows the first `used` are in use.
 #[repr(C)]
-#[derive(Drop)]
+#[derive(Clone, Copy)]
 pub struct NetworkKeys {
     pub rows: [NetworkKey; 2],
     pub used: usize,
 }
 
 // A row of zeros where none is found.
-#[derive(Drop)]
+#[derive(Clone, Copy)]
 pub struct KeyFound {
     pub found: bool,
     pub row: NetworkKey,

@@ -1,5 +1,7 @@
 // What the network layer remembers (nwk/nib of the Rust; document 01, 'The state'): its keys and which of them is active, the
 // counters heard from each sender, and the next counter to send.
+#![tactic(auto)]
+
 mod active;
 mod counters;
 mod keys;

@@ -5,13 +5,13 @@ ghost use Rattle.nib.specs.Sending.{sending, may_use, restarted};
 use answer::Outcome;
 
 #[repr(C)]
-#[derive(Drop)]
+#[derive(Clone, Copy)]
 pub struct Outgoing {
     pub next: u32,
 }
 
 // The counter taken, or 0 where the outcome is a refusal.
-#[derive(Drop)]
+#[derive(Clone, Copy)]
 pub struct Taken {
     pub outcome: Outcome,
     pub counter: u32,

@@ -3,7 +3,7 @@ use crate::keys::NetworkKeys;
 
 // The level, the gateway's own address, the number of the active key, and the network keys.
 #[repr(C)]
-#[derive(Drop)]
+#[derive(Clone, Copy)]
 pub struct Nwk {
     pub level: u8,
     pub own: u64,

@@ -8,7 +8,7 @@ use judging::{caller_of, judge};
 use nib::{CounterRow, Nwk};
 
 // The answer, how many counter rows are in use after it, and the number of the active key.
-#[derive(Drop)]
+#[derive(Clone, Copy)]
 pub struct OpenedNwk {
     pub answer: Answer,
     pub used: usize,

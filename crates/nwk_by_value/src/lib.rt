@@ -1,5 +1,7 @@
 // Opening and securing NWK with the counters by value, for callers that lend no struct: the steps of `nwk`, with rows and record handed on
 // and back.
+#![tactic(auto)]
+
 ghost use Rattle.std.specs.Prelude.{◌≡◌};
 ghost use Rattle.judging.specs.OpenNwk.{open_nwk};
 ghost use Rattle.securing.specs.SecureNwk.{secure_nwk};
@@ -12,7 +14,7 @@ use nib::{CounterRow, Nwk, Outgoing};
 use securing::{finish, ready_for};
 
 // What `open_nwk` answers, and the counter rows after it.
-#[derive(Drop)]
+#[derive(Clone, Copy)]
 pub struct OpenedWith {
     pub rows: [CounterRow; 64],
     pub used: usize,
@@ -41,7 +43,7 @@ pub fn open_with(nwk: Nwk, rows: [CounterRow; 64], used: usize, frame: &mut [u8]
 }
 
 // What `secure_nwk` answers, and the outgoing counter after it.
-#[derive(Drop)]
+#[derive(Clone, Copy)]
 pub struct SecuredWith {
     pub answer: Answer,
     pub outgoing: Outgoing,

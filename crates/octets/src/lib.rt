@@ -1,4 +1,6 @@
 // Strings of octets: XOR, and whether two are the same.
+#![tactic(auto)]
+
 ghost use Rattle.std.specs.Prelude.{◌≡◌, min};
 ghost use Rattle.laws.specs.Octets.{◌⊕◌, same};
 

@@ -12,3 +12,4 @@
 // there; NwkSent, ApsSent, ApsRows, Moves, NwkOnce and ApsOnce from `Once` there; Kept, NwkKept and ApsKept for the refusals. That demand 3 asks for
 // nothing in vain, that the hypotheses can be met, and what does not hold of nonces is shown in the crates `needed` and `needed_aps`. Demand 3 of the code itself stands in
 // `gateway_order`.
+#![tactic(auto)]

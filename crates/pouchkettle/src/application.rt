@@ -10,7 +10,7 @@ use aps::Aps;
 
 // What the call tells, and the pair rows after it.
 #[repr(C)]
-#[derive(Drop)]
+#[derive(Clone, Copy)]
 pub struct ToldAps {
     pub told: Told,
     pub pairs: Pairs,

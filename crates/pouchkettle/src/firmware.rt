@@ -8,7 +8,7 @@ use mmo::Hashing;
 
 // A number, and the state after a part.
 #[repr(C)]
-#[derive(Drop)]
+#[derive(Clone, Copy)]
 pub struct ToldHashing {
     pub number: u8,
     pub state: Hashing,
@@ -16,7 +16,7 @@ pub struct ToldHashing {
 
 // A number, and the value.
 #[repr(C)]
-#[derive(Drop)]
+#[derive(Clone, Copy)]
 pub struct ToldDigest {
     pub number: u8,
     pub value: [u8; 16],

@@ -1,5 +1,7 @@
 // What a gateway in Rust or C links (`rt staticlib pouchkettle`): opening, securing and the hash of firmware under exported names. Answers are numbers, which
 // docs/AUDIT.md lists. A slice goes as pointer and length; every struct is laid out as C does.
+#![tactic(auto)]
+
 mod application;
 mod firmware;
 mod network;

@@ -13,7 +13,7 @@ use nwk::OpenedNwk;
 
 // What opening tells, how many counter rows are in use after it, and the number of the active key.
 #[repr(C)]
-#[derive(Drop)]
+#[derive(Clone, Copy)]
 pub struct ToldNwk {
     pub told: Told,
     pub used: usize,
@@ -65,7 +65,7 @@ pub extern "C" fn pouchkettle_secure_nwk(
 
 // A number, and how many counter rows are in use after the call.
 #[repr(C)]
-#[derive(Drop)]
+#[derive(Clone, Copy)]
 pub struct ToldRows {
     pub number: u8,
     pub used: usize,

@@ -1,5 +1,7 @@
 // Protection itself (security/mod.rs of the Rust; document 01, Protection): the level is filled in at the control byte for nonce and
 // associated data, and cleared on the air.
+#![tactic(auto)]
+
 ghost use Rattle.std.specs.Prelude.{◌≡◌, cond, ◌++◌, ◌+◌, ◌≤◌, ◌<◌, length, take, drop};
 ghost use Rattle.protection.specs.Protection.{vouches, opened_octets, secured_octets};
 

@@ -8,7 +8,7 @@ use fields::{FieldRead, field_at};
 use nib::{CounterRow, NetworkKeys, Nwk};
 
 // The gateway, the place in the input, and how many fields were read and frames presented.
-#[derive(Drop)]
+#[derive(Clone, Copy)]
 pub struct Reader {
     pub nwk: Nwk,
     pub rows: [CounterRow; 64],
@@ -18,14 +18,14 @@ pub struct Reader {
     pub frames: u64,
 }
 
-#[derive(Drop)]
+#[derive(Clone, Copy)]
 pub struct Line {
     pub frame: u64,
     pub told: Told,
 }
 
 // What is wrong with a field, or with the input.
-#[derive(Drop)]
+#[derive(Clone, Copy)]
 pub enum Fault {
     UnknownTag,
     WrongLength,
@@ -38,7 +38,7 @@ pub enum Fault {
 }
 
 // The field that is not right: its number from 1, and the place in the input where it begins.
-#[derive(Drop)]
+#[derive(Clone, Copy)]
 pub struct BadField {
     pub field: u64,
     pub at: usize,
@@ -46,7 +46,7 @@ pub struct BadField {
 }
 
 // What a field gives: nothing to say, a line, the line `bad` (reading stops), or the end.
-#[derive(Drop)]
+#[derive(Clone, Copy)]
 pub enum Event {
     Quiet,
     Tells(Line),
@@ -54,7 +54,7 @@ pub enum Event {
     End,
 }
 
-#[derive(Drop)]
+#[derive(Clone, Copy)]
 pub struct Step {
     pub event: Event,
     pub reader: Reader,

@@ -6,7 +6,7 @@ use aib::{PairRow, Pairs};
 use nib::{CounterRow, NetworkKey, NetworkKeys};
 
 // Counter rows by value.
-#[derive(Drop)]
+#[derive(Clone, Copy)]
 pub(crate) struct Rows {
     pub rows: [CounterRow; 64],
     pub used: usize,

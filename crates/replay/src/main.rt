@@ -1,6 +1,8 @@
 // Cases on standard input, a line for each on standard output: compare/README.md lays both out. The gate replays `stdin`, a sample of cases,
 // and holds the lines to `stdout`, which the published Rust wrote and no program of this project (compare/fixed-list). compare/run sends
 // the same program many more. It promises nothing but to end and to be safe: what it prints is compared.
+#![tactic(auto)]
+
 mod application;
 mod asked;
 mod classes;

@@ -17,7 +17,7 @@ const LARGEST: usize = 1006;
 const ADDED: usize = AUXILIARY + 4;
 
 // Whether the frame goes out, the answer, and the length of its header (0 where it does not go out).
-#[derive(Drop)]
+#[derive(Clone, Copy)]
 pub struct Ready {
     pub go: bool,
     pub answer: Answer,

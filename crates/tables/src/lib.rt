@@ -1,5 +1,7 @@
 // The constant tables, side by side. A constant that a function names is laid on its stack at each call: what needs a table
 // often is lent it by `&`, from one place.
+#![tactic(auto)]
+
 ghost use Rattle.std.specs.Prelude.{◌≡◌, ◌%◌, get_or};
 ghost use Rattle.tables.specs.Field.{sbox};
 ghost use Rattle.tables.specs.Rounds.{products, twice};

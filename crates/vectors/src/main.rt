@@ -1,6 +1,8 @@
 // Public vectors: FIPS 197, SP 800-38A, RFC 3610, Zigbee Annex C, and the ends of each size. They stand as fields in `stdin`
 // (tag 1 byte, length 2 bytes low first, as tools/vectors.py writes them); a line for each is compared with `stdout`, which that
 // program computed with OpenSSL's AES and CCM and nothing of this project.
+#![tactic(auto)]
+
 ghost use Rattle.std.specs.Prelude.{◌<◌};
 
 use answer::Outcome;
@@ -8,14 +10,14 @@ use libc::{STDIN_FILENO, STDOUT_FILENO};
 use mmo::Digest;
 
 // A part of the input.
-#[derive(Drop)]
+#[derive(Clone, Copy)]
 struct Span {
     from: usize,
     to: usize,
 }
 
 // The vector that is being read.
-#[derive(Drop)]
+#[derive(Clone, Copy)]
 struct Vector {
     name: Span,
     key: Span,

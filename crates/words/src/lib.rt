@@ -1,9 +1,11 @@
 // Blocks of sixteen bytes held as four words of four bytes, the first byte lowest: what AES calls a state, its columns the words.
+#![tactic(auto)]
+
 ghost use Rattle.std.specs.Prelude.{◌≡◌, [], ◌∷◌, ◌%◌};
 ghost use Rattle.laws.specs.Octets.{◌⊕◌};
 ghost use Rattle.words.specs.Words.{bytes, block_of};
 
-#[derive(Drop)]
+#[derive(Clone, Copy)]
 pub struct State {
     pub a: u32,
     pub b: u32,
