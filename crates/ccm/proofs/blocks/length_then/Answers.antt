@@ -1,6 +1,5 @@
 -- `ccm::blocks::length_then` meets its contract: four words in a row. Assumes nothing.
 use mathlib.Core.List.{◌++◌}
-use borrow.Author.Rules.{rules}
 use Rattle.ccm.proofs.blocks.length_then.Goals as goal
 
 pub returns : goal.returns

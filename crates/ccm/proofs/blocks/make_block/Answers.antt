@@ -12,4 +12,4 @@ pub returns : goal.returns
 returns c =
     let a = c.args in
     (λ i. ((c.joined.ensures i ++ c.joined-2.ensures i) ++ c.joined-3.ensures i) ++ c.joined-4.ensures i)
-    ∙ ap (λ (l : List ℕ). a.flags ∷ (l ++ be16 a.k)) (listed-eq 13 0 a.t2 (search rules))
+    ∙ ap (λ (l : List ℕ). a.flags ∷ (l ++ be16 a.k)) (listed-eq 13 0 a.nonce (search rules))

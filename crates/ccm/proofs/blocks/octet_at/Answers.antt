@@ -1,7 +1,6 @@
 -- `ccm::blocks::octet_at` meets its contract: past its end a list is read as 0. Assumes nothing.
 use mathlib.Core.Path.{sym}
 use lib.ListN.{get_or-eq_default}
-use borrow.Author.Rules.{rules}
 use Rattle.ccm.proofs.blocks.octet_at.Goals as goal
 
 pub returns-else-i-s : goal.returns-else-i-s

@@ -1,6 +1,5 @@
 -- `ccm::blocks::padded_block` meets its contract: four words in a row. Assumes nothing.
 use mathlib.Core.List.{◌++◌}
-use borrow.Author.Rules.{rules}
 use Rattle.ccm.proofs.blocks.padded_block.Goals as goal
 
 pub returns-then-s-lt16 : goal.returns-then-s-lt16

@@ -1,6 +1,5 @@
 -- `ccm::blocks::whole_block` meets its contract: four words in a row. Assumes nothing.
 use mathlib.Core.List.{◌++◌}
-use borrow.Author.Rules.{rules}
 use Rattle.ccm.proofs.blocks.whole_block.Goals as goal
 
 pub returns : goal.returns

@@ -1,7 +1,6 @@
 -- `ccm::blocks::word_at` meets its contract. Assumes nothing.
 use mathlib.Core.Path.{◌∙◌}
 use Rattle.words.proofs.WordLaws.{listed-four}
-use borrow.Author.Rules.{rules}
 use Rattle.ccm.proofs.blocks.word_at.Goals as goal
 
 pub returns : goal.returns

@@ -2,7 +2,6 @@
 use mathlib.Core.Path.{◌∙◌}
 use mathlib.Core.List.{[], ◌∷◌}
 use Rattle.words.proofs.WordLaws.{listed-four}
-use borrow.Author.Rules.{rules}
 use Rattle.ccm.proofs.blocks.word_near.Goals as goal
 
 pub returns : goal.returns

@@ -1,5 +1,4 @@
 -- `ccm::blocks::xor_block` meets its contract: the callees' contracts. Assumes nothing.
-use borrow.Author.Rules.{rules}
 use Rattle.ccm.proofs.blocks.xor_block.Goals as goal
 
 pub returns-then-s-lt16 : goal.returns-then-s-lt16

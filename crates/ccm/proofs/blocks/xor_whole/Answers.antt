@@ -8,4 +8,4 @@ use Rattle.ccm.proofs.blocks.xor_whole.Goals as goal
 pub returns : goal.returns
 returns c =
     let a = c.args in
-    cc (xor-front a.s-1.now (block_of a.k) refl (search rules))
+    cc (xor-front a.s.now (block_of a.k) refl (search rules))

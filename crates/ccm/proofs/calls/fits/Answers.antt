@@ -1,8 +1,6 @@
 -- `ccm::calls::fits` meets its contract: each return rewrites with the tests that led there. Assumes nothing.
-use mathlib.Core.Path.{sym, ap, ◌∙◌}
-use mathlib.Core.Bool.{not, not-not}
+use mathlib.Core.Path.{sym, ◌∙◌}
 use native.Mathlib.Omega.{arith}
-use borrow.Author.Rules.{rules}
 use borrow.Author.Tests.{lt-ltb, le-ltb}
 use Rattle.ccm.specs.Frame.{fitting}
 use Rattle.ccm.proofs.Fitting.{taken}
@@ -22,17 +20,14 @@ returns-then-n-gt1024 c = rw (← c.tag_taken.ensures, c.if-not-tag_taken.false,
 
 pub overflow_add-at-2 : goal.overflow_add-at-2
 overflow_add-at-2 c =
-    let s = c in
-    omega (arith, taken _ (sym s.tag_taken.ensures ∙ sym (not-not _) ∙ ap not c.if-not-tag_taken.false))
+    omega (arith, taken _ (sym c.tag_taken.ensures ∙ c.if-not-tag_taken.false))
 
 pub returns-then-room-at : goal.returns-then-room-at
 unfolding fitting
 returns-then-room-at c =
-    let s = c in
-    rw (← s.tag_taken.ensures, s.if-not-tag_taken.false, le-ltb _ _ s.if-at-gt1024.false, le-ltb _ _ s.if-n-gt1024.false, lt-ltb _ _ c.if-room-at.true)
+    rw (← c.tag_taken.ensures, c.if-not-tag_taken.false, le-ltb _ _ c.if-at-gt1024.false, le-ltb _ _ c.if-n-gt1024.false, lt-ltb _ _ c.if-room-at.true)
 
 pub returns : goal.returns
 unfolding fitting
 returns c =
-    let s = c in
-    rw (← s.tag_taken.ensures, s.if-not-tag_taken.false, le-ltb _ _ s.if-at-gt1024.false, le-ltb _ _ s.if-n-gt1024.false, le-ltb _ _ c.if-room-at.false)
+    rw (← c.tag_taken.ensures, c.if-not-tag_taken.false, le-ltb _ _ c.if-at-gt1024.false, le-ltb _ _ c.if-n-gt1024.false, le-ltb _ _ c.if-room-at.false)

@@ -1,16 +1,11 @@
 -- `ccm::counter::count_through` meets its contract. The invariant: what is done, followed by what is left under the stream from `i` on, is the whole under the stream.
 -- Assumes nothing.
-use mathlib.Core.Path.{◌≡◌, sym, ap}
-use mathlib.Core.List.{◌++◌, append-nil}
+use mathlib.Core.Path.{◌≡◌}
+use mathlib.Core.List.{◌++◌}
 use Prim.Native.Nat.{◌+◌, ◌-◌, ◌≤◌}
-use native.Mathlib.Numerals.{add-one}
-use lib.ListN.{length, take, drop, drop_of_length-le}
-use lib.Seq.{take_all}
+use lib.ListN.{length, take, drop}
 use Rattle.aes.specs.Words.{cipher_words}
 use Rattle.ccm.specs.Ccm.{counted}
-use Rattle.laws.specs.Parts.{part-rest, put_rest}
-use Rattle.ccm.proofs.Laws.{counted_step, counted-nil}
-use borrow.Author.Rules.{rules}
 use Rattle.ccm.proofs.counter.count_through.Given as goal
 
 abbrev pub invariant-loop-at : goal.invariant-loop-at

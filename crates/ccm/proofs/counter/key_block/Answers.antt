@@ -1,6 +1,5 @@
 -- `ccm::counter::key_block` meets its contract. The callees' contracts in a row.
 -- Assumes nothing.
-use borrow.Author.Rules.{rules}
 use Rattle.ccm.proofs.counter.key_block.Goals as goal
 
 pub returns : goal.returns

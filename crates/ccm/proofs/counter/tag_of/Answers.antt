@@ -1,6 +1,5 @@
 -- `ccm::counter::tag_of` meets its contract. The callees' contracts in a row.
 -- Assumes nothing.
-use borrow.Author.Rules.{rules}
 use Rattle.ccm.proofs.counter.tag_of.Goals as goal
 
 pub returns : goal.returns

@@ -4,4 +4,4 @@ use borrow.Author.Rules.{rules}
 use Rattle.ccm.proofs.frames.open_frame.Goals as goal
 
 pub open_with-requires : goal.open_with-requires
-open_with-requires c = (round-rule, search rules)
+open_with-requires c = record { round = round-rule; m_bound = search rules }

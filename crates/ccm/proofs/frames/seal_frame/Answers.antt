@@ -4,4 +4,4 @@ use borrow.Author.Rules.{rules}
 use Rattle.ccm.proofs.frames.seal_frame.Goals as goal
 
 pub seal_with-requires : goal.seal_with-requires
-seal_with-requires c = (round-rule, search rules)
+seal_with-requires c = record { round = round-rule; m_bound = search rules }

@@ -5,7 +5,7 @@ use native.Mathlib.Omega.{arith}
 use mathlib.Core.List.{◌++◌}
 use Prim.Native.Nat.{◌+◌, ◌-◌, ◌≤◌}
 use lib.ListN.{length, take, drop, length-take, length-drop, length-append}
-use lib.Seq.{length-take-le}
+use lib.Seq.{length-take-le, take-length}
 use borrow.Author.Rules.{rules}
 use Rattle.words.specs.Words.{block_of}
 use Rattle.aes.specs.Words.{cipher_words}
@@ -14,24 +14,15 @@ use Rattle.laws.specs.XorLaws.{xor-take}
 use Rattle.laws.specs.Parts.{put_two}
 use Rattle.ccm.proofs.frames.seal_part.Goals as goal
 
-pub slice_bounds-mac_part-end-2 : goal.slice_bounds-mac_part-end-2
-slice_bounds-mac_part-end-2 c = simp length-take (omega arith)
-
-pub slice_bounds-count_through-end-2 : goal.slice_bounds-count_through-end-2
-slice_bounds-count_through-end-2 c = simp length-take (omega arith)
-
-pub slice_bounds-copy-end : goal.slice_bounds-copy-end
-slice_bounds-copy-end c = simp length-take (omega arith)
-
 pub copy-requires : goal.copy-requires
 copy-requires c =
     let a = c.args in
-    let x = c.count_through.new.1.1.0 in
+    let x = c.count_through.new.s in
     let t = c.tag_of-t.result in
-    let w = x ++ drop a.n a.s-1.now in
+    let w = x ++ drop a.n a.s.now in
     let lt : length t ≡ 16 = search rules in
-    let lx : length x ≡ a.n = c.count_through.auto.1.1.0 ∙ length-take-le a.n a.s-1.now (search rules) in
-    let p : a.n + a.m ≤ length a.s-1.now = search rules in
+    let lx : length x ≡ a.n = c.count_through.auto.s ∙ length-take-le a.n a.s.now (search rules) in
+    let p : a.n + a.m ≤ length a.s.now = search rules in
     let q : a.m ≤ 16 = search rules in
     let h : length (take a.m t) ≤ length (take (length w - a.n) (drop a.n w)) = simp (length-take, length-drop, length-append) (omega arith) in
     h
@@ -40,10 +31,10 @@ pub returns : goal.returns
 unfolding sealed_from tag_from
 returns c =
     let a = c.args in
-    let x = c.count_through.new.1.1.0 in
+    let x = c.count_through.new.s in
     let y = c.mac_part-y.result in
     let t = c.tag_of-t.result in
-    let s = a.s-1.now in
-    let lx : length x ≡ a.n = c.count_through.auto.1.1.0 ∙ length-take-le a.n s (search rules) in
+    let s = a.s.now in
+    let lx : length x ≡ a.n = c.count_through.auto.s ∙ length-take-le a.n s (search rules) in
     let lt : length (take a.m t) ≡ a.m = length-take-le a.m t (search rules) in
-    cc (put_two a.n a.m x (take a.m t) s lx lt, xor-take a.m (block_of y) (cipher_words a.keys.now (block 1 a.nonce 0)))
+    cc (put_two a.n a.m x (take a.m t) s lx lt, take-length (take a.m t), xor-take a.m (block_of y) (cipher_words a.keys.now (block 1 a.nonce 0)))

@@ -6,7 +6,6 @@ use native.Mathlib.Omega.{arith}
 use Rattle.words.specs.Words.{block_of}
 use Rattle.laws.specs.Blocks.{be16}
 use Rattle.ccm.proofs.BlockLaws.{xor-listed}
-use borrow.Author.Rules.{rules}
 use Rattle.ccm.proofs.mac.first_block.Goals as goal
 
 pub returns : goal.returns

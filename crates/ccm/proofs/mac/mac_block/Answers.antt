@@ -1,10 +1,8 @@
 -- `ccm::mac::mac_block` meets its contract. The callees' contracts in a row.
 -- Assumes nothing.
-use mathlib.Core.Path.{refl}
 use Rattle.words.specs.Words.{block_of}
 use Rattle.ccm.proofs.BlockLaws.{xor-listed}
 use native.Mathlib.Omega.{arith}
-use borrow.Author.Rules.{rules}
 use Rattle.ccm.proofs.mac.mac_block.Goals as goal
 
 pub returns : goal.returns

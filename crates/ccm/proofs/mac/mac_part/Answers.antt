@@ -1,14 +1,12 @@
 -- `ccm::mac::mac_part` meets its contract. The invariant: the chain from `y` over what is left is the chain over the whole.
 -- Assumes nothing.
-use mathlib.Core.Path.{◌≡◌, refl}
-use Prim.Native.Nat.{◌-◌, ◌≤◌, ◌<◌}
+use mathlib.Core.Path.{refl}
+use Prim.Native.Nat.{◌≤◌, ◌<◌}
 use native.Mathlib.Omega.{arith}
 use lib.ListN.{length, drop, drop_of_length-le, length-drop}
 use lib.Seq.{drop-drop}
 use Rattle.words.specs.Words.{block_of}
 use Rattle.aes.specs.Words.{cipher_words}
-use Rattle.laws.specs.Blocks.{blocks}
-use Rattle.ccm.specs.Ccm.{chain}
 use Rattle.laws.specs.Parts.{part-rest}
 use Rattle.ccm.proofs.Laws.{chain-turn, chain-nil}
 use borrow.Author.Rules.{rules}
