@@ -13,7 +13,7 @@ use Rattle.walks.specs.Walk.{ !, Below, Calls, Env, Fml, Fun, GName, Is, Item, L
 use Rattle.walks.specs.Direct.{Own, ends_with, from-fact, meets}
 use Rattle.walks.specs.Operands.{operand}
 use Rattle.cells.specs.Rows.{place_of}
-use Rattle.cells.specs.Search.{Passed, start, at-end, hit, miss}
+use Rattle.cells.proofs.Search.{Passed, start, at-end, hit, miss}
 use Rattle.nib.specs.Counters.{counter_rows, pair, empty}
 use Rattle.nib.specs.declared.counters.CounterRow.{CounterRow}
 use Rattle.nib.specs.contracts.counters.CounterRow as T

@@ -4,7 +4,7 @@ use native.Mathlib.Omega.{arith}
 use mathlib.Core.Path.{◌≡◌, subst}
 use lib.ListN.{length}
 use borrow.Author.Tests.{eq-eqb, ne_eqb}
-use Rattle.cells.specs.Search.{Passed, start, at-end, hit, miss}
+use Rattle.cells.proofs.Search.{Passed, start, at-end, hit, miss}
 use Rattle.aib.specs.Pairs.{pair_rows}
 use Rattle.aib.proofs.Rows.{sixteen, past}
 use Rattle.aib.proofs.search.place_of.Statement.{statement}

@@ -1,6 +1,6 @@
 -- `nib::keys::place_of` meets its contract. The loop's invariant: no row below `i` has that number. Assumes nothing.
 use Rattle.std.proofs.Common.{◌≡◌, ◌-◌, ◌≤◌, length, subst, arith, eq-eqb, ne_eqb}
-use Rattle.cells.specs.Search.{Passed, start, at-end, hit, miss}
+use Rattle.cells.proofs.Search.{Passed, start, at-end, hit, miss}
 use Rattle.nib.specs.Keys.{key_rows}
 use Rattle.nib.proofs.Rows.{two, past}
 use Rattle.nib.proofs.keys.place_of.Statement.{statement}

@@ -1,4 +1,4 @@
--- `frame::nonce` meets its contract. Assumes nothing.
+-- `auxiliary_header::nonces::nonce` meets its contract. Assumes nothing.
 use mathlib.Core.Path.{◌≡◌, refl, ◌∙◌}
 use mathlib.Core.List.{List, [], ◌∷◌, ◌++◌, append_assoc}
 use Prim.Native.Nat.{ℕ, ◌+◌}
@@ -10,8 +10,7 @@ use Rattle.laws.specs.Numbers.{low}
 use Rattle.laws.specs.NumberLaws.{low-length}
 use Rattle.auxiliary_header.specs.Nonce.{nonce_of}
 use Rattle.auxiliary_header.proofs.Turns.{stored_next, stored-whole}
-use Rattle.auxiliary_header.proofs.nonces.nonce.Statement.{statement}
-use Rattle.auxiliary_header.proofs.nonces.nonce.Tie as tie
+use Rattle.auxiliary_header.proofs.nonces.nonce.Goals as goal
 
 -- three strings one after the other
 whole : (zeros first second : List ℕ) (sender counter control : ℕ) → length zeros ≡ 13
@@ -32,18 +31,7 @@ whole zeros first second sender counter control size e₁ e₂ =
     let all : length ((s ++ f) ++ k) ≡ length zeros = simp length-append (omega arith) in
     three ∙ stored-whole zeros ((s ++ f) ++ k) all ∙ append_assoc s f k
 
-returns : tie.Need-returns
+pub returns : goal.returns
 returns c =
-    let a = c.before.before.before.before.before.before.args in
-    whole _ c.before.before.before.before.put.new.0 c.before.put2.new.0 a.sender a.counter a.control.byte refl c.before.before.before.before.put.ensures c.before.put2.ensures
-
-pub nonce-spec : {M : Type 1} → statement M
-nonce-spec =
-    tie.close
-    (tie.spec
-    (λ c. search rules)
-    (λ c κs. search rules)
-    (λ c. search rules)
-    (λ c κs. search rules)
-    (λ c. search rules)
-    returns)
+    let a = c.args in
+    whole _ c.put.new.s c.put-2.new.s a.sender a.counter a.control.byte refl c.put.ensures c.put-2.ensures

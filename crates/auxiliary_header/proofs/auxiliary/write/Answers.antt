@@ -1,4 +1,4 @@
--- `frame::write` meets its contract. Assumes nothing.
+-- `auxiliary_header::auxiliary::write` meets its contract. Assumes nothing.
 use mathlib.Core.Path.{◌≡◌, sym, ◌∙◌}
 use mathlib.Core.List.{List}
 use Prim.Native.Nat.{ℕ, ◌+◌, ◌≤◌, ◌<◌}
@@ -11,8 +11,7 @@ use Rattle.auxiliary_header.specs.Auxiliary.{auxiliary_length, auxiliary_octets}
 use Rattle.auxiliary_header.specs.AuxiliaryLaws.{octets-length}
 use Rattle.auxiliary_header.specs.Written.{written, outcome_of}
 use Rattle.auxiliary_header.specs.WrittenLaws.{refused, unchanged, done, stored}
-use Rattle.auxiliary_header.proofs.auxiliary.write.Statement.{statement}
-use Rattle.auxiliary_header.proofs.auxiliary.write.Tie as tie
+use Rattle.auxiliary_header.proofs.auxiliary.write.Goals as goal
 
 module _ (out : List ℕ) (at control counter sender number : ℕ) where
   abbrev octets : List ℕ
@@ -26,33 +25,20 @@ module _ (out : List ℕ) (at control counter sender number : ℕ) where
   room : at + auxiliary_length control ≤ length out → at + length octets ≤ length out
   room h = rw (octets-length control counter sender number) h
 
-returns : tie.Need-returns
+pub returns-then-out-at : goal.returns-then-out-at
+returns-then-out-at c =
+    let a = c.args in
+    let r = refusal a.out.now a.at a.control.byte a.counter a.sender a.number (omega arith) in
+    record { value = r.0; out_after = r.1 }
+
+pub returns-then-out-at-2 : goal.returns-then-out-at-2
+returns-then-out-at-2 c =
+    let a = c.args in
+    let r = refusal a.out.now a.at a.control.byte a.counter a.sender a.number (search rules) in
+    record { value = r.0; out_after = r.1 }
+
+pub returns : goal.returns
 returns c =
-    let a = c.before.before.args in
-    refusal a.out.now a.at a.control.byte a.counter a.sender a.number (omega arith)
-
-returns-2 : tie.Need-returns-2
-returns-2 c =
-    let a = c.before.before.before.before.args in
-    refusal a.out.now a.at a.control.byte a.counter a.sender a.number (search rules)
-
-same_length : tie.Need-same-length
-same_length c = c.before.before.put_all_lem.auto.0
-
-returns-3 : tie.Need-returns-3
-returns-3 c =
-    let a = c.before.before.before.before.before.before.before.before.args in
+    let a = c.args in
     let fits = room a.out.now a.at a.control.byte a.counter a.sender a.number (search rules) in
-    (sym (done a.out.now a.at _ fits), c.before.before.put_all_lem.ensures ∙ stored a.out.now a.at _ fits)
-
-pub write_spec : {M : Type 1} → statement M
-write_spec =
-    tie.close
-    (tie.spec
-    returns
-    (λ c. search rules)
-    (λ c κs. search rules)
-    returns-2
-    (λ c κs. search rules)
-    same_length
-    returns-3)
+    record { value = sym (done a.out.now a.at _ fits); out_after = c.put_all.ensures ∙ stored a.out.now a.at _ fits }

@@ -16,7 +16,7 @@ use Rattle.std.proofs.Math.ListN.{length}
 use Rattle.cells.specs.Lists.{keep, any}
 use Rattle.cells.specs.ListLaws.{clash, either, keep-mem, keep-length, keep-shorter, any_found}
 use Rattle.cells.specs.Rows.{Rows, Reaction, leave, become, has_row, put, room, settle, with_key, new_keys}
-use Rattle.cells.specs.RowLaws.{has-put, has-put-other, length-put}
+use Rattle.cells.proofs.RowLaws.{has-put, has-put-other, length-put}
 
 module _ {R K C F : Type 0} (rows : Rows R K C) (names : F → Option K) (places : ℕ) where
   -- A list with the keys that the frames name and that have no row (and perhaps others), and a free place for each of the list.
