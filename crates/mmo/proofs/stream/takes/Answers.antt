@@ -5,18 +5,14 @@ use native.Mathlib.Omega.{arith}
 use borrow.Author.Tests.{lt-leb}
 use Rattle.mmo.specs.Stream.{limit}
 use Rattle.mmo.proofs.AddLaws.{leb-rest}
-use Rattle.mmo.proofs.stream.takes.Statement.{statement}
-use Rattle.mmo.proofs.stream.takes.Tie as tie
+use Rattle.mmo.proofs.stream.takes.Goals as goal
 
-returns : tie.Need-returns
-returns c =
-    let a = c.before.args in
+pub returns-then-before-gt-LIMIT : goal.returns-then-before-gt-LIMIT
+returns-then-before-gt-LIMIT c =
+    let a = c.args in
     sym (lt-leb (a.total + a.n) limit (omega arith))
 
-returns-2 : tie.Need-returns-2
-returns-2 c =
-    let a = c.before.args in
+pub returns : goal.returns
+returns c =
+    let a = c.args in
     leb-rest a.total a.n (omega arith)
-
-pub takes-spec : {M : Type 1} → statement M
-takes-spec = tie.close (tie.spec returns returns-2)
