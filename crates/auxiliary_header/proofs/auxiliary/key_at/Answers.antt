@@ -2,7 +2,6 @@
 use mathlib.Core.Path.{◌≡◌, sym, ap, ◌∙◌}
 use mathlib.Core.Bool.{true}
 use native.Mathlib.Omega.{arith}
-use borrow.Author.Rules.{rules}
 use Rattle.control.specs.Control.{identifier_of, has_number}
 use Rattle.control.specs.ControlLaws.{is_network, number-of-network}
 use Rattle.control.specs.declared.KeyIdentifier.TheVariants.{Network}

@@ -1,6 +1,5 @@
 -- `auxiliary_header::auxiliary::put_sender` meets its contract. Assumes nothing.
 use mathlib.Core.Path.{sym, ◌∙◌}
-use borrow.Author.Rules.{rules}
 use Rattle.auxiliary_header.proofs.auxiliary.put_sender.Goals as goal
 
 pub put-requires : goal.put-requires

@@ -1,11 +1,9 @@
 -- `auxiliary_header::numbers::put` meets its contract: what is stored and what is left to store make the whole. Assumes nothing.
 use mathlib.Core.Path.{◌≡◌, ◌∙◌}
-use Prim.Native.Nat.{◌+◌, ◌-◌, ◌≤◌}
-use native.Mathlib.Nat.{add-zero, sub-zero}
+use Prim.Native.Nat.{◌-◌}
 use native.Mathlib.Omega.{arith}
 use borrow.Author.Rules.{rules}
-use lib.ListN.{length, length-set}
-use lib.Seq.{sets}
+use lib.ListN.{length-set}
 use Rattle.laws.specs.Numbers.{low}
 use Rattle.auxiliary_header.proofs.Turns.{sets-step}
 use Rattle.auxiliary_header.proofs.numbers.put.Goals as goal

@@ -5,12 +5,8 @@ use borrow.Author.Rules.{rules}
 use lib.Bits.{and_mask}
 use lib.Dec.{eqb}
 use Rattle.laws.specs.Numbers.{bit}
-use Rattle.frame_header.proofs.flags.is_set.Statement.{statement}
-use Rattle.frame_header.proofs.flags.is_set.Tie as tie
+use Rattle.frame_header.proofs.flags.is_set.Goals as goal
 
-returns : tie.Need-returns
+pub returns : goal.returns
 unfolding bit
 returns c = ap (λ (n : ℕ). eqb n 1) (and_mask (c.args.bits / 2 ^ c.args.place) 1)
-
-pub is-set-spec : {M : Type 1} → statement M
-is-set-spec = tie.close (tie.spec (λ c. search rules) returns)

@@ -1,0 +1,8 @@
+-- `header::control_of` meets its contract. Assumes nothing.
+use native.Mathlib.Omega.{arith}
+use borrow.Author.Rules.{rules}
+use Rattle.frame_header.specs.NwkLaws.{control-octets}
+use Rattle.frame_header.proofs.network.control_of.Goals as goal
+
+pub returns : goal.returns
+returns c = control-octets c.args.s.now (search rules)

@@ -1,0 +1,11 @@
+-- `header::fixed_length` meets its contract. Assumes nothing.
+use native.Mathlib.Omega.{arith}
+use borrow.Author.Rules.{rules}
+use Rattle.laws.specs.Numbers.{bit}
+use Rattle.frame_header.specs.Nwk.{nwk_fixed}
+use Rattle.frame_header.specs.NwkLaws.{flagged-at-most}
+use Rattle.frame_header.proofs.network.fixed_length.Goals as goal
+
+pub returns : goal.returns
+unfolding nwk_fixed
+returns c = search rules
