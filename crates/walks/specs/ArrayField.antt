@@ -17,7 +17,7 @@ module _ (T : Declared) (L : Laws T) where
   vals-same [] = refl
   vals-same (z ∷ zs) = ap (λ (us : List Val). val T L z ∷ us) (vals-same zs)
 
-  each_in : (zs : List T.D) (us : List Val) → shadow (each T.D (row T).own zs us) → shadow (each (field T).row.Denot (field T).row.own_val (map T.to zs) us)
+  each_in : (zs : List T.D) (us : List Val) → shadow (each T.D (row T).own_val zs us) → shadow (each (field T).row.Denot (field T).row.own_val (map T.to zs) us)
   each_in [] [] e = e
   each_in [] (u ∷ us) e = absurd e
   each_in (z ∷ zs) [] e = absurd e

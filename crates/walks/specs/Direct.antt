@@ -78,11 +78,11 @@ module _ {M : Type 1} {𝓤 : Ura M} (𝓛 : Logic 𝓤) (T : Ended) (c : Clause
 
 module _ {M : Type 1} {𝓤 : Ura M} {𝓛 : Logic 𝓤} {K : Type 0} {Γ : List (Item 𝓤)} {G : Goal 𝓤 𝓛.H} (t : K) (z : Soaks G) (n j : ℕ) (ok : AllWithin n (j ∷ [])) (s : Slot n) (κs : Lfts n) where
   pub left-ref : (x : ((mut_ref_to (j ∷ []) ok s).row κs).Denot) (l : Last (((mut_ref_to (j ∷ []) ok s).row κs).exit yes) x) (vs : List Val)
-      → Step K 𝓛 (‵ (left (((mut_ref_to (j ∷ []) ok s).row κs).exit yes) x l) ∷ Γ) G (‵ (((mut_ref_to (j ∷ []) ok s).row κs).own (at_last x l) vs) ∷ Γ) G
+      → Step K 𝓛 (‵ (left (((mut_ref_to (j ∷ []) ok s).row κs).exit yes) x l) ∷ Γ) G (‵ (((mut_ref_to (j ∷ []) ok s).row κs).own_val (at_last x l) vs) ∷ Γ) G
   left-ref x l vs = step (λ q. use1 𝓛 (later (‵ (left (((mut_ref_to (j ∷ []) ok s).row κs).exit yes) x l))) (Goes-ref 𝓛 n j ok s κs x l vs tt) $ await t z $ q)
 
   pub left-slice : (x : ((mut_slice_of (j ∷ []) ok s).row κs).Denot) (l : Last (((mut_slice_of (j ∷ []) ok s).row κs).exit yes) x) (vs : List Val) → length l ≡ length x.now
-      → Step K 𝓛 (‵ (left (((mut_slice_of (j ∷ []) ok s).row κs).exit yes) x l) ∷ Γ) G (‵ (((mut_slice_of (j ∷ []) ok s).row κs).own (at_last x l) vs) ∷ Γ) G
+      → Step K 𝓛 (‵ (left (((mut_slice_of (j ∷ []) ok s).row κs).exit yes) x l) ∷ Γ) G (‵ (((mut_slice_of (j ∷ []) ok s).row κs).own_val (at_last x l) vs) ∷ Γ) G
   left-slice x l vs same = step (λ q. use1 𝓛 (later (‵ (left (((mut_slice_of (j ∷ []) ok s).row κs).exit yes) x l))) (Goes-slice 𝓛 n j ok s κs x l vs same) $ await t z $ q)
 
 module _ {M : Type 1} {𝓤 : Ura M} {𝓛 : Logic 𝓤} {K : Type 0} {Γ : List (Item 𝓤)} {E : PEnv 𝓤 𝓛.H} {C : Calls 𝓤 𝓛.H} {f : MName} {xs : List Operand} {Λ : Loops 𝓤 𝓛.H} {q : Post 𝓤 𝓛.H} {d : Place} where

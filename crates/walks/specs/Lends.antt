@@ -7,7 +7,7 @@
 use Rattle.std.specs.Prelude.{◌≡◌, List, [], ◌∷◌, ℕ, length}
 use Rattle.std.proofs.Common.{ap, subst, sym}
 use seplogic.Ra.Ura.{Ura}
-use seplogic.Ra.TreeShare.{full_share}
+use base.Fraction.{full_share}
 use mir.Syntax.{Lifetime, Name, Place, Opd as Operand, Body, seq, call}
 use mir.Val.{Val, vptr}
 use base.Logic.{ent, sep, emp, id⊢}

@@ -8,7 +8,7 @@ use Rattle.std.specs.Prelude.{◌≡◌, refl, List, [], ◌∷◌, length}
 use Rattle.std.proofs.Common.{◌∙◌, sym, subst}
 use Prim.Native.Nat.{ℕ}
 use seplogic.Ra.Ura.{Ura}
-use seplogic.Ra.TreeShare.{full_share}
+use base.Fraction.{full_share}
 use mir.Syntax.{Body, Lifetime, Ty, ty_array}
 use mir.Val.{Val}
 use base.Logic.{ent, sep, ex, guard}

@@ -7,7 +7,7 @@
 use Rattle.std.specs.Prelude.{refl, List, [], ◌∷◌, ◌++◌, ℕ, ◌<◌, ◌^◌}
 use Rattle.std.proofs.Math.Option.{Option, none, some}
 use seplogic.Ra.Ura.{Ura}
-use seplogic.Ra.TreeShare.{full_share}
+use base.Fraction.{full_share}
 use mir.Syntax.{Ty, Width}
 use mir.Val.{Val, vint, bits}
 use base.Logic.{SProp, ent, sep, id⊢, via, mono_l, mono_r, assoc∗, assoc', comm∗}

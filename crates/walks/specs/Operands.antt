@@ -7,7 +7,7 @@ use Rattle.std.specs.Prelude.{◌≡◌, refl, Bool, true, false, cond, List, []
 use Rattle.std.proofs.Common.{subst, sym}
 use Rattle.std.proofs.Math.Option.{Option, none, some, none-ne-some, some-injective}
 use seplogic.Ra.Ura.{Ura}
-use seplogic.Ra.TreeShare.{full_share}
+use base.Fraction.{full_share}
 use mir.Syntax.{Opd as Operand, Step as Into, Sym, Ty, Tys, Width, copy, deref, field, float, int, int_big, int_neg, opd_false, opd_true, opd_unit, place, ptr_const, ttnil, ty_array, ty_bool, ty_enum, ty_float, ty_int, ty_named, ty_ptr, ty_ref, ty_struct, ty_unit, variant}
 use mir.Fields.{get_v, set_v}
 use mir.Val.{Val, bits, vbool, vfloat, vint, vptr, vstruct, vunit}

@@ -5,7 +5,7 @@
 -- Assumes `Logic`.
 use Rattle.std.specs.Prelude.{refl, ℕ, List, [], ◌∷◌, length}
 use seplogic.Ra.Ura.{Ura}
-use seplogic.Ra.TreeShare.{full_share}
+use base.Fraction.{full_share}
 use mir.Syntax.{Lifetime}
 use mir.Val.{Val}
 use base.Logic.{ent, sep, ex}

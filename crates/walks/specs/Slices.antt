@@ -5,7 +5,7 @@
 use Rattle.std.specs.Prelude.{◌≡◌, List, [], ◌∷◌, ℕ, length}
 use Rattle.std.proofs.Common.{sym, ap, subst}
 use seplogic.Ra.Ura.{Ura}
-use seplogic.Ra.TreeShare.{full_share}
+use base.Fraction.{full_share}
 use mir.Syntax.{named}
 use mir.Val.{Val}
 use base.Fml.{GName, Lft, Share, flft, fobs, fauth, fobor}

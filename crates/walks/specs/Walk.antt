@@ -9,7 +9,7 @@ pub use mir.Syntax.{Ty, erased, imm, loop, mut, named, ty_array, ty_bool, ty_int
 pub use mir.Val.{Val, WT, has_ty, vbool, vcons, vint, vnil, vptr, vstruct, vunit}
 -- the logic
 pub use seplogic.Ra.Ura.{Ura}
-pub use seplogic.Ra.TreeShare.{full_share}
+pub use base.Fraction.{full_share}
 pub use base.Logic.{SProp, emp, ent, ex_e, fst∗, id⊢, sep, snd∗, via}
 pub use base.Fml.{Fml, GName, Lft, Share, fat, fauth, fbor, fdies, flent, flft, fobor, fobs, fres, froom, fshr_bor, ftrue, fsep, fdead}
 pub use ghost.Atoms.{Atoms, sem}
