@@ -7,7 +7,8 @@ trap 'rm -rf "$room"' EXIT
 trap 'exit 2' HUP INT TERM
 chmod 755 "$room"
 script=$top/$name
-program=$top/target/bin/$(echo "$name" | tr - _)
+crate=$(echo "$name" | tr - _)
+program=$top/crates/$crate/out/$crate
 passed=0 failed=0
 
 # ---- a call, and what it left

@@ -4,7 +4,8 @@
 #   top    the repository's folder
 #   crate  the program's crate
 #   whole  how long it takes to prove all of it
-# A program that is not proved is removed, and never run. POSIX sh.
+# A program that is not proved is removed, and never run. It goes by checksums, so a call that finds nothing changed asks rt for
+# nothing but its version. POSIX sh.
 
 say() { printf '%s: %s\n' "$name" "$*" >&2; }
 
@@ -13,8 +14,9 @@ die() {
     exit 2
 }
 
-program=$top/target/bin/$crate
+program=$top/crates/$crate/out/$crate
 log=$top/target/$name.log
+made=$top/target/$name.made
 
 # How many crates the program is made of.
 count_crates() {
@@ -33,16 +35,15 @@ count_crates() {
         }' "$top/crates.txt"
 }
 
-# Hands on what rt says: whole to the log, and a line for each crate that was proved. Its status is rt's.
-report() { # TOTAL
-    proved=0
+# Hands on what rt says: whole to the log, and a line for each crate that it begins with. Its status is rt's.
+report() {
+    begun=0
     while IFS= read -r line; do
         printf '%s\n' "$line" >>"$log"
         case $line in
-        'rt: '*' proved (unchanged'*) proved=$((proved + 1)) ;;
-        'rt: '*' proved ('*)
-            proved=$((proved + 1)) done=${line#rt: }
-            say "proved $proved of $1: ${done%% *}"
+        'rt: chose '*' for '*)
+            begun=$((begun + 1))
+            say "proving crate $begun: ${line##* for }"
             ;;
         'rt ended '*) return "${line##* }" ;;
         esac
@@ -50,20 +51,21 @@ report() { # TOTAL
     return 2
 }
 
-# Whether rt will have something to prove, as far as the files' times tell; rt itself goes by their sums.
-is_stale() {
-    [ -x "$program" ] || return 0
-    since=$program
-    if [ -f "$log" ]; then
-        grep -q '^rt: ok' "$log" || return 0
-        since=$log
-    fi
-    [ -n "$(find "$top/crates.txt" "$top/crates" -newer "$since" 2>/dev/null | head -n 1)" ]
+# One line for the kit, the sources and the program: another line where one of them is another.
+sums() {
+    {
+        rt version
+        cd "$top" && find crates.txt crates -name out -prune -o -type f -exec cksum {} +
+        cksum "$program"
+    } 2>/dev/null </dev/null | sort | cksum
 }
 
-check() {
+is_made() { [ -x "$program" ] && [ -f "$made" ] && [ "$(cat "$made")" = "$(sums)" ]; }
+
+# Proves the program and the crates below it, builds it, and runs it on an empty input.
+prove() {
     : >"$log" || die "cannot write '$log'"
-    { (cd "$top" && rt check "$crate") </dev/null 2>&1; echo "rt ended $?"; } | report "$1"
+    { (cd "$top/crates/$crate" && rt run) </dev/null 2>&1; echo "rt ended $?"; } | report
 }
 
 # Has the program proved and built, where it is not. One that is not proved is removed.
@@ -72,36 +74,32 @@ build() {
     if ! mkdir -p "$top/target" 2>/dev/null || [ ! -w "$top/target" ]; then
         die "cannot write '$top/target', where proofs and program go; copy '$top' to where you can write, and call it there"
     fi
-    # one rt at a time over one target/: two undo each other's proofs
+    # one call at a time proves here
     exec 9>>"$top/target/lock" || die "cannot write '$top/target/lock'"
     if command -v flock >/dev/null 2>&1 && ! flock -n 9; then
         say 'another call proves here; waiting for it'
         flock 9 || die "cannot lock '$top/target/lock'"
     fi
-    total=$(count_crates)
-    if is_stale; then
-        say "proving what is new or changed of $total crates; all of them take $whole"
-    fi
-    # where the program alone is gone, rt must not take it for built
-    [ -x "$program" ] || rm -f "$top/target/stamp/$crate"
-    if check "$total" && [ -x "$program" ]; then
+    if is_made; then
         exec 9>&-
         return
     fi
-    # where rt itself failed, as for a wrong RATTLE_HOME, nothing is known of the program, and it stays; it is not run
-    ! grep -q 'NOT PROVED' "$log" || rm -f "$program"
-    grep '^rt: ' "$log" | grep -v ' proved (' >&2
+    say "proving what is new or changed of $(count_crates) crates; all of them take $whole"
+    rm -f "$made"
+    prove
+    status=$?
+    if [ "$status" -eq 0 ] && [ -x "$program" ]; then
+        sums >"$made" || die "cannot write '$made'"
+        exec 9>&-
+        return
+    fi
+    # where rt itself failed nothing is known of the program, and it stays; it is not run
+    [ "$status" -ne 1 ] || rm -f "$program"
+    grep -e 'not proved' -e 'error' "$log" | head -n 5 >&2
     die "the program is not proved, so nothing was read; '$log' has all that rt said"
 }
 
-# Runs the program as rt does: it is for x86-64, and the kit has an emulator for other machines.
-run() {
-    kit=${RATTLE_HOME:-$(dirname "$(dirname "$(readlink -f "$(command -v rt)")")")}
-    tools=$kit/on/$(uname -m)/toolchain
-    set -- "$tools/lib/ld-linux-x86-64.so.2" --library-path "$tools/lib" "$program"
-    [ ! -x "$tools/bin/qemu-x86_64" ] || set -- "$tools/bin/qemu-x86_64" "$@"
-    "$@"
-}
+run() { "$program"; }
 
 version() {
     commit='no git checkout'
