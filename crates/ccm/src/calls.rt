@@ -21,6 +21,7 @@ fn tag_taken(m: usize) -> bool
 }
 
 // Whether `at` associated bytes, a payload of n and a tag of m are taken, and a buffer has room for them.
+#[tactic(auto, using(crate::proofs::Fitting::taken), unfolding(crate::specs::Frame::fitting))]
 fn fits(m: usize, at: usize, n: usize, room: usize) -> Outcome
     ensures { result ≡ fitting m at n room }
 {
