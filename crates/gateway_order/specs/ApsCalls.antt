@@ -7,7 +7,8 @@ use denote.Triple.Entry.{Args, Res}
 use denote.Triple.Clauses.{Lasts, at_exit}
 use Rattle.answer.specs.Numbers.{told}
 use Rattle.cells.specs.Desk.{write}
-use Rattle.aps.proofs.open_aps as open-aps
+use Rattle.aps.specs.contracts.open_aps as open-aps
+use Rattle.aps.proofs.open_aps.Reads as open-aps-reads
 use Rattle.order.specs.Aps.{Gateway, ApsDesk}
 
 -- One call with what the gateway g holds, for a frame b: arguments, result, and the last contents of what was lent (the frame).
@@ -19,7 +20,7 @@ pub record Call (g : Gateway) (b : List ℕ) : Type 0 where
   pub aps : arguments.0 ≡ g.aps
   pub pairs : arguments.1.0 ≡ g.pairs
   pub frame : arguments.1.1.0.now ≡ b
-  pub promised : open-aps.Reads.Post lifetimes arguments result (at_exit open-aps.ended lifetimes arguments last)
+  pub promised : open-aps-reads.Post lifetimes arguments result (at_exit open-aps.ended lifetimes arguments last)
 
 -- the desk after it: the pairs of the result, the frame in buffer i as it is then, and what was told of it
 abbrev pub called : (d : ApsDesk) (i : ℕ) → Call d.state (d.buffer i) → ApsDesk

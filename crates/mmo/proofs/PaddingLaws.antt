@@ -5,7 +5,7 @@ use Prim.Native.Nat.{ℕ, suc, ◌+◌, ◌-◌, ◌%◌, ◌<◌, ◌≤◌}
 use native.Mathlib.Omega.{arith}
 use borrow.Author.Tests.{lt-ltb, le-ltb}
 use lib.ListN.{length, take, drop, set, replicate, length-append, length-replicate, replicate-append-replicate}
-use lib.Seq.{set_at, take_at, drop_at, take-length}
+use lib.Seq.{set_at, take_at, drop_at}
 use Rattle.mmo.specs.Hash.{short_padding, long_padding, padding}
 
 -- document 01, case P4: the pad octets after 13, 14, 15, 16 and 17
@@ -37,7 +37,7 @@ dropped n k = ap (drop n) (sym (replicate-append-replicate n k 0)) ∙ drop_at (
 
 -- the code's way, in e octets: s copied over zeros, 0x80 after it, and the ending copied to where e ends, whatever stands after it
 pub closing : (s ending x y : List ℕ) (e : ℕ) → length s + 1 + length ending ≤ e → e ≤ 32
-    → take e (take (e - length ending) (set (take (length s) s ++ drop (length s) (zeros 32)) (length s) 0x80) ++ ((take (length ending) ending ++ x) ++ y))
+    → take e (take (e - length ending) (set (s ++ drop (length s) (zeros 32)) (length s) 0x80) ++ ((ending ++ x) ++ y))
     ≡ s ++ (0x80 ∷ (zeros (e - (length s + 1 + length ending)) ++ ending))
 closing s ending x y e l u =
     let n = length s in
@@ -50,5 +50,5 @@ closing s ending x y e l u =
     let g : (r : List ℕ) → s ++ (0x80 ∷ (zeros z ++ r)) ≡ m ++ r = λ r. sym (append_assoc s (0x80 ∷ zeros z) r) in
     let i : length m ≡ at = simp (length-append, length-replicate) (omega arith) in
     let j : length (m ++ ending) ≡ e = length-append m ending ∙ omega arith in
-    rw (take-length s, v, set_at s 0 (zeros z ++ zeros (32 - at)) 0x80 n refl, g (zeros (32 - at)), take_at m (zeros (32 - at)) at i, take-length ending, g ending, append_assoc ending x y)
+    rw (v, set_at s 0 (zeros z ++ zeros (32 - at)) 0x80 n refl, g (zeros (32 - at)), take_at m (zeros (32 - at)) at i, g ending, append_assoc ending x y)
     (rw (← append_assoc m ending (x ++ y)) (take_at (m ++ ending) (x ++ y) e j))

@@ -15,7 +15,7 @@ use Rattle.nib.specs.declared.counters.CounterRow.{CounterRow}
 use Rattle.nib.specs.declared.counters.Recorded.{Recorded}
 use Rattle.nib.specs.declared.counters.Placement.{Placement}
 use Rattle.nib.specs.Pairs.{Pair, same-pair-eq}
-use Rattle.nib.specs.Counters.{Cell, counter_rows, row_pair, row_cell, row_of, standing, capacity, overfull, held_for, over, After, left, refused, placed, settled, empty, kept, closed, forgotten}
+use Rattle.nib.specs.Counters.{Cell, counter_rows, row_pair, row_cell, row_of, capacity, overfull, held_for, over, After, left, refused, placed, settled, empty, kept, closed, forgotten}
 use Rattle.nib.specs.Placing.{searched, nobody, placing, closing}
 
 module _ (rows : List CounterRow) (used : ℕ) (k : Pair) where
