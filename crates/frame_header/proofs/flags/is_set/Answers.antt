@@ -1,7 +1,6 @@
--- `header::flags::is_set` meets its contract. Assumes nothing.
+-- `frame_header::flags::is_set` meets its contract. Assumes nothing.
 use mathlib.Core.Path.{ap}
 use Prim.Native.Nat.{ℕ, ◌/◌, ◌^◌}
-use borrow.Author.Rules.{rules}
 use lib.Bits.{and_mask}
 use lib.Dec.{eqb}
 use Rattle.laws.specs.Numbers.{bit}

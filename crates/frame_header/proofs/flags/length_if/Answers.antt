@@ -1,6 +1,5 @@
--- `header::flags::length_if` meets its contract. Assumes nothing.
+-- `frame_header::flags::length_if` meets its contract. Assumes nothing.
 use mathlib.Core.Path.{sym, ◌∙◌}
-use borrow.Author.Rules.{rules}
 use Rattle.frame_header.proofs.flags.length_if.Goals as goal
 
 pub returns-then-is_set : goal.returns-then-is_set

@@ -1,5 +1,4 @@
--- `header::control_of` meets its contract. Assumes nothing.
-use native.Mathlib.Omega.{arith}
+-- `frame_header::network::control_of` meets its contract. Assumes nothing.
 use borrow.Author.Rules.{rules}
 use Rattle.frame_header.specs.NwkLaws.{control-octets}
 use Rattle.frame_header.proofs.network.control_of.Goals as goal

@@ -1,9 +1,6 @@
--- `header::fixed_length` meets its contract. Assumes nothing.
-use native.Mathlib.Omega.{arith}
+-- `frame_header::network::fixed_length` meets its contract. Assumes nothing.
 use borrow.Author.Rules.{rules}
-use Rattle.laws.specs.Numbers.{bit}
 use Rattle.frame_header.specs.Nwk.{nwk_fixed}
-use Rattle.frame_header.specs.NwkLaws.{flagged-at-most}
 use Rattle.frame_header.proofs.network.fixed_length.Goals as goal
 
 pub returns : goal.returns

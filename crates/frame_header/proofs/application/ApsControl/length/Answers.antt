@@ -1,7 +1,6 @@
--- `header::ApsControl::length` meets its contract. Assumes nothing.
+-- `frame_header::application::ApsControl::length` meets its contract. Assumes nothing.
 use mathlib.Core.Path.{sym, ◌∙◌}
 use borrow.Author.Tests.{eq-eqb, ne_eqb}
-use borrow.Author.Rules.{rules}
 use Rattle.frame_header.specs.Aps.{aps_length}
 use Rattle.frame_header.proofs.application.ApsControl.length.Goals as goal
 

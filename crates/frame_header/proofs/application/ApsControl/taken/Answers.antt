@@ -1,7 +1,6 @@
--- `header::ApsControl::taken` meets its contract. Assumes nothing.
+-- `frame_header::application::ApsControl::taken` meets its contract. Assumes nothing.
 use mathlib.Core.Path.{sym, ◌∙◌}
 use borrow.Author.Tests.{eq-eqb, ne_eqb, le-leb, lt-leb}
-use borrow.Author.Rules.{rules}
 use Rattle.frame_header.specs.Aps.{aps_taken}
 use Rattle.frame_header.proofs.application.ApsControl.taken.Goals as goal
 
