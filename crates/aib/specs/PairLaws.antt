@@ -10,7 +10,7 @@ use borrow.Author.Tests.{lt-ltb, le-ltb, eq-eqb, ne_eqb, eqb-true}
 use Rattle.answer.specs.declared.Outcome.TheVariants.{Done}
 use Rattle.answer.specs.declared.Refusal.TheVariants.{Unsupported, NoPair, CounterSpent, TableFull}
 use Rattle.cells.specs.Rows.{is_row, put, place_of, find, room}
-use Rattle.cells.specs.Search.{lent-le, lent_row, lent-cell, lent-put}
+use Rattle.cells.proofs.Search.{lent-le, lent_row, lent-cell, lent-put}
 use Rattle.aib.specs.declared.pairs.PairRow.{PairRow}
 use Rattle.aib.specs.declared.pairs.Pairs.{Pairs}
 use Rattle.cells.specs.First.{first_where}

@@ -35,9 +35,9 @@ fn lay(
         ++ (drop header plain.now ++ drop (length plain.now + 13) out.old) }
 {
     let at = header + AUXILIARY;
-    bytes::copy(&plain[..header], out);
+    octets::copy(&plain[..header], out);
     auxiliary_header::write(out, header, Control::sent(identifier), counter, own, 0);
-    bytes::copy(&plain[header..], &mut out[at..]);
+    octets::copy(&plain[header..], &mut out[at..]);
 }
 
 // The finished frame: headers, payload enciphered, tag.

@@ -6,9 +6,14 @@
 use aib::{PairRow, Pairs};
 use aps::Aps;
 use control::{Control, KeyIdentifier};
-use libc::{STDIN_FILENO, STDOUT_FILENO};
 use mmo::{Digest, Hashing};
 use nib::{NetworkKeys, Nwk};
+
+// Standard input, as the kit's `io` takes it.
+const STDIN: i32 = 0;
+
+// Standard output.
+const STDOUT: i32 = 1;
 
 const LOGGER: u64 = 0x0011223344556677;
 
@@ -20,12 +25,12 @@ const LOGGER_KEY: [u8; 16] = [
 const ALL: usize = 215;
 
 fn text(s: &[u8]) {
-    io::write_all(STDOUT_FILENO, s);
+    io::write_all(STDOUT, s);
 }
 
 fn number(n: u64) {
     text(b" ");
-    io::print_decimal(STDOUT_FILENO, n);
+    io::print_decimal(STDOUT, n);
 }
 
 fn wide(n: u32) -> u64 {
@@ -34,7 +39,7 @@ fn wide(n: u32) -> u64 {
 
 fn octet(n: u8) {
     text(b" ");
-    io::print_hex(STDOUT_FILENO, n as u64, 2);
+    io::print_hex(STDOUT, n as u64, 2);
 }
 
 fn octets(s: &[u8]) {
@@ -286,7 +291,7 @@ fn limits(part: &[u8]) {
 
 fn main() {
     let mut frames = [0u8; ALL];
-    io::read_full(STDIN_FILENO, &mut frames);
+    io::read_full(STDIN, &mut frames);
     controls();
     paddings();
     old_counters(frames);

@@ -7,7 +7,7 @@ use native.Mathlib.Decide.{dec_le}
 use native.Mathlib.Nat.{le_of_suc-le-suc}
 use lib.Bits.{bit_xor, xor_zero_r}
 use lib.ListN.{length, take, drop, get_or, replicate, drop_of_length-le, get_or-eq_default}
-use lib.Seq.{drop-cons, take-length, get_or-drop}
+use lib.Seq.{drop-cons, get_or-drop}
 use Rattle.laws.specs.Octets.{◌⊕◌}
 use Rattle.laws.specs.XorLaws.{xor-length, xor-nil, nil-xor, xor-cons, xor-append}
 use Rattle.laws.specs.Parts.{listed}
@@ -15,6 +15,7 @@ use Rattle.laws.specs.Parts.{listed}
 -- a block XOR what is left of y from i on: so many octets of it are enough, and past its end they may be zeros
 pub xor-listed : (k i : ℕ) (x y : List ℕ) → length x ≤ k → x ⊕ listed k i y ≡ x ⊕ drop i y
 xor-listed k i [] y h = nil-xor (listed k i y) ∙ sym (nil-xor (drop i y))
+xor-listed zero i (a ∷ x) y h = elim h [ ]
 xor-listed (suc k) i (a ∷ x) y h =
     xor-cons a (get_or y i 0) x (listed k (suc i) y) ∙ ap (λ (z : List ℕ). bit_xor a (get_or y i 0) ∷ z) (xor-listed k (suc i) x y (le_of_suc-le-suc h)) ∙ go (dec_le (suc i) (length y))
   where
@@ -43,17 +44,17 @@ past (b ∷ a) z zero h = refl
 past (b ∷ a) z (suc i) h = past a z i h
 
 -- a copied to the front of n zeros
-pub listed-copied : (k i n : ℕ) (a : List ℕ) → listed k i (take (length a) a ++ drop (length a) (replicate n 0)) ≡ listed k i a
+pub listed-copied : (k i n : ℕ) (a : List ℕ) → listed k i (a ++ drop (length a) (replicate n 0)) ≡ listed k i a
 listed-copied zero i n a = refl
 listed-copied (suc k) i n a =
     ap₂ (λ (x : ℕ) (r : List ℕ). x ∷ r)
-    (ap (λ (x : List ℕ). get_or (x ++ drop (length a) (replicate n 0)) i 0) (take-length a) ∙ past a (drop (length a) (replicate n 0)) i (λ j. get_or-drop (length a) (replicate n 0) j 0 ∙ zeros n (length a + j)))
+    (past a (drop (length a) (replicate n 0)) i (λ j. get_or-drop (length a) (replicate n 0) j 0 ∙ zeros n (length a + j)))
     (listed-copied k (suc i) n a)
 
 -- a block k XORed into the front of s, and put back
-pub xor-front : (s k : List ℕ) → length k ≡ 16 → 16 ≤ length s → (let t = listed 16 0 s ⊕ k in take (length t) t ++ drop (length t) s) ≡ s ⊕ k
+pub xor-front : (s k : List ℕ) → length k ≡ 16 → 16 ≤ length s → (let t = listed 16 0 s ⊕ k in t ++ drop (length t) s) ≡ s ⊕ k
 xor-front s k l h =
     let t = listed 16 0 s ⊕ k in
-    let a : take (length t) t ≡ take 16 s ⊕ k = take-length t ∙ ap (λ (x : List ℕ). x ⊕ k) (listed-part 16 0 s h) in
+    let a : t ≡ take 16 s ⊕ k = ap (λ (x : List ℕ). x ⊕ k) (listed-part 16 0 s h) in
     let b = xor-append s k [] ∙ ap (λ (n : ℕ). (take n s ⊕ k) ++ (drop n s ⊕ [])) l ∙ ap (λ (x : List ℕ). (take 16 s ⊕ k) ++ x) (xor-nil (drop 16 s)) in
     ap₂ (λ (x : List ℕ) (n : ℕ). x ++ drop n s) a (xor-length (listed 16 0 s) k) ∙ sym b ∙ ap (λ (x : List ℕ). s ⊕ x) (append-nil k)

@@ -6,7 +6,7 @@ use native.Mathlib.Omega.{arith}
 use mathlib.Core.Bool.{Bool, cond}
 use mathlib.Core.List.{List, ◌++◌}
 use lib.ListN.{length, take, drop, length-drop}
-use lib.Seq.{take_at, take-length, drop-drop, length-take-le}
+use lib.Seq.{take_at, drop-drop, length-take-le}
 use Rattle.laws.specs.Octets.{◌⊕◌, same}
 use Rattle.laws.specs.Blocks.{blocks}
 use Rattle.ccm.specs.Frame.{sealed_frame, opened_frame, vouched_frame}
@@ -40,12 +40,12 @@ module _ (E : List ℕ → List ℕ) where
       cc (put_rest at s y, part-rest at s, put-cond r at s (counted E n 1 (take k (drop at s)) ++ drop k (drop at s)), drop-drop k at s)
 
   -- s, its first n copied to the front of p, and these under the key stream
-  pub aside : (n s p t q : List ℕ) (k : ℕ) → k ≤ length s → t ≡ take (length (take k s)) (take k s) ++ drop (length (take k s)) p
+  pub aside : (n s p t q : List ℕ) (k : ℕ) → k ≤ length s → t ≡ take k s ++ drop (length (take k s)) p
       → length q ≡ length (take k t) → q ≡ counted E n 1 (take k t) → take k (q ++ drop k t) ≡ counted E n 1 (take k s)
   aside n s p t q k h c l e =
       let ls : length (take k s) ≡ k = length-take-le k s h in
       let g : take k t ≡ take k s =
-      ap (take k) (c ∙ ap (λ (x : List ℕ). x ++ drop (length (take k s)) p) (take-length (take k s))) ∙ take_at (take k s) (drop (length (take k s)) p) k ls in
+      ap (take k) c ∙ take_at (take k s) (drop (length (take k s)) p) k ls in
       take_at q (drop k t) k (l ∙ ap length g ∙ ls) ∙ e ∙ ap (counted E n 1) g
 
   pub vouched-aside : (M : ℕ) (n x : List ℕ) (k : ℕ) (s p y t : List ℕ) (r : Bool) → p ≡ counted E n 1 (take k s) → y ≡ chain E x (blocks p) → t ≡ y ⊕ E (block 1 n 0)
@@ -56,7 +56,7 @@ module _ (E : List ℕ → List ℕ) where
       cc (xor-take M y (E (block 1 n 0)))
 
   -- and put back
-  pub placed : (n : List ℕ) (k : ℕ) (s p : List ℕ) → k ≤ length s → p ≡ counted E n 1 (take k s) → take (length p) p ++ drop (length p) s ≡ counted E n 1 (take k s) ++ drop k s
+  pub placed : (n : List ℕ) (k : ℕ) (s p : List ℕ) → k ≤ length s → p ≡ counted E n 1 (take k s) → p ++ drop (length p) s ≡ counted E n 1 (take k s) ++ drop k s
   placed n k s p h e =
       let l : length p ≡ k = ap length e ∙ length-counted E n 1 (take k s) ∙ length-take-le k s h in
-      ap₂ (λ (x : List ℕ) (j : ℕ). x ++ drop j s) (take-length p ∙ e) l
+      ap₂ (λ (x : List ℕ) (j : ℕ). x ++ drop j s) e l

@@ -84,7 +84,7 @@ pub(crate) fn length_block(a: &[u8]) -> State
 {
     if a.len() < 14 {
         let mut t = [0u8; 14];
-        bytes::copy(a, &mut t);
+        octets::copy(a, &mut t);
         return length_then(a.len(), &t);
     }
     length_then(a.len(), a)
@@ -108,7 +108,7 @@ fn xor_whole(s: &mut [u8], k: State)
     ensures { s.new ≡ s.old ⊕ block_of k }
 {
     let t = block_of(added(whole_block(s), k));
-    bytes::copy(&t, s);
+    octets::copy(&t, s);
 }
 
 // k XORed into the first block of s, or into as much as there is of it.

@@ -28,7 +28,7 @@ fn seal_part(
     let y = mac_part(keys, x, &s[..n], table);
     let t = tag_of(keys, nonce, y, table);
     count_through(keys, nonce, &mut s[..n], table);
-    bytes::copy(&t[..m], &mut s[n..]);
+    octets::copy(&t[..m], &mut s[n..]);
 }
 
 // Seals a payload of n bytes that starts at `at`: what lies before it is the associated data, and the tag follows it.
@@ -82,14 +82,14 @@ fn open_part(
         × (s.new ≡ cond result (counted (cipher_words keys.now) nonce 1 (take n s.old) ++ drop n s.old) s.old) }
 {
     let mut p = [0u8; 1024];
-    bytes::copy(&s[..n], &mut p);
+    octets::copy(&s[..n], &mut p);
     count_through(keys, nonce, &mut p[..n], table);
     let y = mac_part(keys, x, &p[..n], table);
     let t = tag_of(keys, nonce, y, table);
     let e = n + m;
     let ok = same(&t[..m], &s[n..e]);
     if ok {
-        bytes::copy(&p[..n], s);
+        octets::copy(&p[..n], s);
         return true;
     }
     false

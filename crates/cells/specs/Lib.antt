@@ -1,19 +1,12 @@
--- The definitions, and beside each the laws about it, in reading order.
+-- The definitions, and beside each the laws about it, in reading order; proofs/ has the theorems that rest on them.
 pub mod Lists
 pub mod ListLaws
 pub mod First
 pub mod FirstLaws
 pub mod Rows
-pub mod RowLaws
-pub mod Search
-pub mod FreeRows
 pub mod Machine
-pub mod Product
 pub mod Rising
 pub mod Once
 pub mod Reorder
-pub mod ReorderLaws
 pub mod Desk
 pub mod DeskLaws
-pub mod Order
-pub mod Still

@@ -4,8 +4,8 @@
 #![tactic(auto)]
 
 use answer::Outcome;
-use libc::{STDERR_FILENO, STDIN_FILENO, STDOUT_FILENO};
 use mmo::Hashing;
+use std::io::{IsTerminal, Read, Write};
 
 // More turns than this no input has: each takes a byte, and one byte past the limit ends it.
 const TURNS: usize = 536870913;
@@ -25,27 +25,17 @@ struct Taken {
     state: Hashing,
 }
 
-// One read, and what came added to the state.
-fn turn(state: Hashing) -> Taken {
-    let mut part = io::buffer();
-    let got = libc::read(STDIN_FILENO, &mut part);
-    let n = io::count(got, &part);
-    if got < 0 {
-        return Taken {
-            came: Came::Unread,
-            state,
-        };
-    }
-    if n == 0 {
+// What came, added to the state. A read of nothing is the end of the input.
+fn added(state: Hashing, part: &[u8]) -> Taken {
+    if part.is_empty() {
         return Taken {
             came: Came::End,
             state,
         };
     }
-    let added = mmo::hash_add(state, &part[..n]);
-    let outcome = added.outcome;
+    let added = mmo::hash_add(state, part);
     let state = added.state;
-    match outcome {
+    match added.outcome {
         Outcome::Done => Taken {
             came: Came::More,
             state,
@@ -57,74 +47,90 @@ fn turn(state: Hashing) -> Taken {
     }
 }
 
+// One read, and what came added to the state.
+fn turn(rt: &HostRuntime, state: Hashing) -> Taken {
+    let mut part = [0u8; 4096];
+    match rt.stdin().read(&mut part) {
+        Ok(n) => added(state, &part[..n]),
+        Err(_) => Taken {
+            came: Came::Unread,
+            state,
+        },
+    }
+}
+
+// Writing that fails is not told here: the script takes what is no whole value for a failure.
+fn print(rt: &HostRuntime, text: &str) {
+    let printed = rt.stdout().write_all(text.as_bytes());
+    printed.is_ok();
+}
+
+fn say(rt: &HostRuntime, text: &str) {
+    let said = rt.stderr().write_all(text.as_bytes());
+    said.is_ok();
+}
+
 // How far it is, for each four megabytes.
-fn show(before: u32, total: u32) {
+fn show(rt: &HostRuntime, before: u32, total: u32) {
     if before / 4000000 == total / 4000000 {
         return;
     }
-    io::write_all(STDERR_FILENO, b"\r");
-    io::print_decimal(STDERR_FILENO, (total / 1000000) as u64);
-    io::write_all(STDERR_FILENO, b" MB ");
+    let megabytes = total / 1000000;
+    let said = eprint!(rt; "\r{megabytes} MB ");
+    said.is_ok();
 }
 
-fn print_octet(x: u8) {
-    io::print_hex(STDOUT_FILENO, x as u64, 2);
+fn print_octet(rt: &HostRuntime, x: u8) {
+    let printed = print!(rt; "{x:02x}");
+    printed.is_ok();
 }
 
-fn print_value(value: &[u8]) {
+fn print_value(rt: &HostRuntime, value: &[u8]) {
     let mut i = 0;
     while i < value.len() {
-        print_octet(value[i]);
+        print_octet(rt, value[i]);
         i += 1;
     }
 }
 
-fn print_end(state: Hashing) {
+fn print_end(rt: &HostRuntime, state: Hashing) {
     let digest = mmo::hash_finish(state);
     let outcome = digest.outcome;
     let value = digest.value;
     match outcome {
-        Outcome::Done => print_value(&value),
-        Outcome::Refused(_) => {
-            io::write_all(STDOUT_FILENO, b"long");
-        }
+        Outcome::Done => print_value(rt, &value),
+        Outcome::Refused(_) => print(rt, "long"),
     }
 }
 
 // Reads to the end, and prints.
-fn follow(shows: bool) {
+fn follow(rt: &HostRuntime, shows: bool) {
     let mut state = mmo::hash_start();
     let mut left = TURNS;
     while 0 < left {
         let before = state.total;
-        let taken = turn(state);
+        let taken = turn(rt, state);
         let came = taken.came;
         let next = taken.state;
         match came {
             Came::More => {}
-            Came::End => return print_end(next),
-            Came::Long => {
-                io::write_all(STDOUT_FILENO, b"long");
-                return;
-            }
-            Came::Unread => {
-                io::write_all(STDOUT_FILENO, b"unread");
-                return;
-            }
+            Came::End => return print_end(rt, next),
+            Came::Long => return print(rt, "long"),
+            Came::Unread => return print(rt, "unread"),
         }
         if shows {
-            show(before, next.total);
+            show(rt, before, next.total);
         }
         state = next;
         left -= 1;
     }
 }
 
-fn main() {
-    let shows = libc::isatty(STDERR_FILENO) == 1;
-    follow(shows);
+fn main(rt: HostRuntime) {
+    let shows = rt.stderr().is_terminal();
+    follow(&rt, shows);
     if shows {
-        io::write_all(STDERR_FILENO, b"\r        \r");
+        say(&rt, "\r        \r");
     }
-    io::write_all(STDOUT_FILENO, b"\n");
+    print(&rt, "\n");
 }

@@ -4,10 +4,9 @@
 #![tactic(auto)]
 
 ghost use Rattle.std.specs.Prelude.{length, ◌≤◌};
-ghost use Rattle.io.specs.Counts.{IsPrefixLen};
 
-use libc::{STDERR_FILENO, STDIN_FILENO, STDOUT_FILENO};
 use reader::{BadField, Event, Fault, Line};
+use std::io::{Read, Write};
 
 // How many bytes were read, whether there are no more, and whether that is for a read that failed.
 #[derive(Clone, Copy)]
@@ -27,22 +26,27 @@ enum Ending {
 }
 
 // One read more, into the space from `count` on. A read of nothing is the end of the input.
-fn read_more(space: &mut [u8], count: usize) -> Input
+fn read_more(rt: &HostRuntime, space: &mut [u8], count: usize) -> Input
     requires { count ≤ length space.old }
-    ensures { IsPrefixLen result.count space.new }
+    ensures { result.count ≤ length space.new }
 {
-    let got = libc::read(STDIN_FILENO, &mut space[count..]);
-    let more = io::count(got, &space[count..]);
-    Input {
-        count: count + more,
-        ended: more == 0,
-        failed: got < 0,
+    match rt.stdin().read(&mut space[count..]) {
+        Ok(more) => Input {
+            count: count + more,
+            ended: more == 0,
+            failed: false,
+        },
+        Err(_) => Input {
+            count,
+            ended: true,
+            failed: true,
+        },
     }
 }
 
 // Reads until the input ends, the space is full or a read fails. No input takes more reads than it has bytes.
-fn read_all(space: &mut [u8]) -> Input
-    ensures { IsPrefixLen result.count space.new }
+fn read_all(rt: &HostRuntime, space: &mut [u8]) -> Input
+    ensures { result.count ≤ length space.new }
 {
     let mut input = Input {
         count: 0,
@@ -51,7 +55,7 @@ fn read_all(space: &mut [u8]) -> Input
     };
     let mut left = space.len();
     while 0 < left {
-        input = read_more(space, input.count);
+        input = read_more(rt, space, input.count);
         if input.ended {
             return input;
         }
@@ -60,28 +64,25 @@ fn read_all(space: &mut [u8]) -> Input
     input
 }
 
-fn print_number(n: u64, after: &[u8]) -> bool {
-    io::print_decimal(STDOUT_FILENO, n) && io::write_all(STDOUT_FILENO, after)
-}
-
 // The frame's number, answer, start and length; whether they were all written.
-fn print_line(line: Line) -> bool {
+fn print_line(rt: &HostRuntime, line: Line) -> bool {
+    let frame = line.frame;
     let told = line.told;
-    print_number(line.frame, b" ")
-        && print_number(told.number as u64, b" ")
-        && print_number(told.start as u64, b" ")
-        && print_number(told.len as u64, b"\n")
+    let number = told.number;
+    let start = told.start;
+    let len = told.len;
+    println!(rt; "{frame} {number} {start} {len}").is_ok()
 }
 
-fn print_bad(bad: BadField) -> Ending {
-    if io::write_all(STDOUT_FILENO, b"bad\n") {
+fn print_bad(rt: &HostRuntime, bad: BadField) -> Ending {
+    if println!(rt; "bad").is_ok() {
         return Ending::Bad(bad);
     }
     Ending::Unwritten
 }
 
 // No input has more fields than bytes.
-fn print_lines(s: &[u8]) -> Ending {
+fn print_lines(rt: &HostRuntime, s: &[u8]) -> Ending {
     let mut state = reader::start();
     let mut left = s.len();
     while 0 < left {
@@ -91,11 +92,11 @@ fn print_lines(s: &[u8]) -> Ending {
         match event {
             Event::Quiet => {}
             Event::Tells(line) => {
-                if !print_line(line) {
+                if !print_line(rt, line) {
                     return Ending::Unwritten;
                 }
             }
-            Event::Bad(bad) => return print_bad(bad),
+            Event::Bad(bad) => return print_bad(rt, bad),
             Event::End => return Ending::AllRead,
         }
         state = next;
@@ -104,56 +105,62 @@ fn print_lines(s: &[u8]) -> Ending {
     Ending::AllRead
 }
 
-fn say(s: &[u8]) {
-    io::write_all(STDERR_FILENO, s);
+// What cannot be said is lost: the script takes a last line that is no ending for a failure.
+fn say(rt: &HostRuntime, s: &str) {
+    let said = rt.stderr().write_all(s.as_bytes());
+    said.is_ok();
 }
 
-fn say_fault(fault: Fault) {
+fn say_fault(rt: &HostRuntime, fault: Fault) {
     match fault {
-        Fault::UnknownTag => say(b"unknown tag; a field begins with 0x01, 0x02, 0x03 or 0x10"),
+        Fault::UnknownTag => say(
+            rt,
+            "unknown tag; a field begins with 0x01, 0x02, 0x03 or 0x10",
+        ),
         Fault::WrongLength => say(
-            b"wrong length; a key row has 17 bytes, a counter row 13, an active number 1",
+            rt,
+            "wrong length; a key row has 17 bytes, a counter row 13, an active number 1",
         ),
-        Fault::RepeatedKey => say(b"repeated row; there is a key of this number already"),
+        Fault::RepeatedKey => say(rt, "repeated row; there is a key of this number already"),
         Fault::RepeatedRow => say(
-            b"repeated row; there is a counter row of this key number and sender already",
+            rt,
+            "repeated row; there is a counter row of this key number and sender already",
         ),
-        Fault::ThirdKey => say(b"third key; there is room for two"),
-        Fault::SurplusRow => say(b"65th counter row; there is room for 64"),
-        Fault::CutField => say(b"cut field; the input ends within it"),
-        Fault::InputTooLong => say(b"input over 65536 bytes; no field of it was taken"),
+        Fault::ThirdKey => say(rt, "third key; there is room for two"),
+        Fault::SurplusRow => say(rt, "65th counter row; there is room for 64"),
+        Fault::CutField => say(rt, "cut field; the input ends within it"),
+        Fault::InputTooLong => say(rt, "input over 65536 bytes; no field of it was taken"),
     }
 }
 
-fn say_bad(bad: BadField) {
+fn say_bad(rt: &HostRuntime, bad: BadField) {
+    let field = bad.field;
+    let at = bad.at;
     let fault = bad.fault;
-    say(b"bad: field ");
-    io::print_decimal(STDERR_FILENO, bad.field);
-    say(b" at byte offset ");
-    io::print_decimal(STDERR_FILENO, bad.at as u64);
-    say(b": ");
-    say_fault(fault);
-    say(b"\n");
+    let said = eprint!(rt; "bad: field {field} at byte offset {at}: ");
+    said.is_ok();
+    say_fault(rt, fault);
+    say(rt, "\n");
 }
 
-fn say_ending(ending: Ending) {
+fn say_ending(rt: &HostRuntime, ending: Ending) {
     match ending {
-        Ending::AllRead => say(b"all read\n"),
-        Ending::Bad(bad) => say_bad(bad),
-        Ending::Unread => say(b"cannot read the input\n"),
-        Ending::Unwritten => say(b"cannot write the lines\n"),
+        Ending::AllRead => say(rt, "all read\n"),
+        Ending::Bad(bad) => say_bad(rt, bad),
+        Ending::Unread => say(rt, "cannot read the input\n"),
+        Ending::Unwritten => say(rt, "cannot write the lines\n"),
     }
 }
 
-fn run(space: &mut [u8]) -> Ending {
-    let input = read_all(space);
+fn run(rt: &HostRuntime, space: &mut [u8]) -> Ending {
+    let input = read_all(rt, space);
     if input.failed {
         return Ending::Unread;
     }
-    print_lines(&space[..input.count])
+    print_lines(rt, &space[..input.count])
 }
 
-fn main() {
+fn main(rt: HostRuntime) {
     let mut space = [0u8; 65537];
-    say_ending(run(&mut space));
+    say_ending(&rt, run(&rt, &mut space));
 }

@@ -20,9 +20,9 @@ fn closed(s: &[u8], ending: &[u8]) -> Padded
     let end = (n + ending.len() + 16) / 16 * 16;
     let at = end - ending.len();
     let mut p = [0u8; 32];
-    bytes::copy(s, &mut p);
+    octets::copy(s, &mut p);
     p[n] = 0x80;
-    bytes::copy(ending, &mut p[at..]);
+    octets::copy(ending, &mut p[at..]);
     Padded { bytes: p, len: end }
 }
 

@@ -9,7 +9,7 @@ use Rattle.answer.specs.declared.Refusal.TheVariants.{Unsupported, TableFull}
 use Rattle.cells.specs.FirstLaws.{passes-used}
 use Rattle.cells.specs.Lists.{keep}
 use Rattle.cells.specs.Rows.{is_row, put, place_of, room}
-use Rattle.cells.specs.Search.{lent-le, lent_row, lent-cell, lent-put}
+use Rattle.cells.proofs.Search.{lent-le, lent_row, lent-cell, lent-put}
 use Rattle.nib.specs.declared.counters.Change.{Change}
 use Rattle.nib.specs.declared.counters.CounterRow.{CounterRow}
 use Rattle.nib.specs.declared.counters.Recorded.{Recorded}

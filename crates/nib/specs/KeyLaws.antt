@@ -5,7 +5,7 @@ use Rattle.std.proofs.Math.Decide.{dec_le}
 use borrow.Author.Tests.{lt-ltb, le-ltb, eqb-true}
 use Rattle.cells.specs.Rows.{is_row, place_of}
 use Rattle.cells.specs.FirstLaws.{passes-used}
-use Rattle.cells.specs.Search.{lent-le, lent-cell}
+use Rattle.cells.proofs.Search.{lent-le, lent-cell}
 use Rattle.nib.specs.declared.keys.NetworkKey.{NetworkKey}
 use Rattle.nib.specs.declared.keys.NetworkKeys.{NetworkKeys}
 use Rattle.nib.specs.Keys.{key_rows, none_found, key_found}

@@ -1,7 +1,7 @@
-// Strings of octets: XOR, and whether two are the same.
+// Strings of octets: XOR, whether two are the same, and copying.
 #![tactic(auto)]
 
-ghost use Rattle.std.specs.Prelude.{◌≡◌, min};
+ghost use Rattle.std.specs.Prelude.{◌≡◌, ◌≤◌, ◌++◌, min, length, drop};
 ghost use Rattle.laws.specs.Octets.{◌⊕◌, same};
 
 // The smaller of two lengths.
@@ -37,4 +37,13 @@ pub fn same(a: &[u8], b: &[u8]) -> bool
         j += 1;
     }
     d == 0
+}
+
+// src copied into dst from the front; what lies past it stays.
+pub fn copy(src: &[u8], dst: &mut [u8])
+    requires { length src.now ≤ length dst.old }
+    ensures { dst.new ≡ src.now ++ drop (length src.now) dst.old }
+{
+    let n = src.len();
+    dst[..n].copy_from_slice(src);
 }

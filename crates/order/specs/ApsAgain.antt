@@ -20,8 +20,9 @@ use Rattle.protection.specs.Keys.{key_for}
 use Rattle.protection.specs.Protection.{tag_size, vouches}
 use Rattle.aps.specs.OpenAps.{incoming, aps_judged, unchanged as aps-unchanged, aps_placed, aps_unfit, open_aps}
 use Rattle.aps.specs.SecureAps.{Secured}
-use Rattle.cells.specs.Rising.{Rising, stops, rises, AtLeast, one_kept, taken-held}
-use Rattle.cells.specs.Product.{final-keeps}
+use Rattle.cells.specs.Rising.{Rising, stops, rises, AtLeast}
+use Rattle.cells.proofs.RisingLaws.{one_kept, taken-held}
+use Rattle.cells.proofs.Product.{final-keeps}
 use Rattle.order.specs.Stale.{opens, counter_of, Stale, not-above}
 use Rattle.order.specs.Aps.{Gateway, held_pair, answer, after}
 use Rattle.order.specs.ApsSent as sends

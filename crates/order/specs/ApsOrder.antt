@@ -9,11 +9,11 @@ use Rattle.std.proofs.Math.Seq.{take-append_seam}
 use borrow.Author.Tests.{eq-eqb, eqb-true, le-ltb, ltb-false}
 use Rattle.cells.specs.ListLaws.{nor, neither, not-not}
 use Rattle.cells.specs.Rows.{Reaction, leave, Settled, find, settle, reply_of}
-use Rattle.cells.specs.RowLaws.{settle-fits}
+use Rattle.cells.proofs.RowLaws.{settle-fits}
 use Rattle.cells.specs.Machine.{Machine}
 use Rattle.cells.specs.Reorder.{Reordered}
-use Rattle.cells.specs.Order.{any_order}
-use Rattle.cells.specs.Still.{still_alike}
+use Rattle.cells.proofs.Order.{any_order}
+use Rattle.cells.proofs.Still.{still_alike}
 use Rattle.aib.specs.declared.pairs.PairRow.{PairRow}
 use Rattle.aib.specs.Counters.{in_use}
 use Rattle.aib.specs.Pairs.{PairCell, pair_rows}

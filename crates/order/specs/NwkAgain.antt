@@ -16,8 +16,9 @@ use Rattle.claims.specs.Claims.{nwk_who, pair_of}
 use Rattle.protection.specs.Heard.{Heard, refused, equals, below}
 use Rattle.protection.specs.Protection.{tag_size, vouches}
 use Rattle.judging.specs.OpenNwk.{unchanged, nwk_judged, nwk_placed, nwk_unfit, open_nwk}
-use Rattle.cells.specs.Rising.{Rising, stops, rises, AtLeast, one_kept, taken-held}
-use Rattle.cells.specs.Product.{final-keeps}
+use Rattle.cells.specs.Rising.{Rising, stops, rises, AtLeast}
+use Rattle.cells.proofs.RisingLaws.{one_kept, taken-held}
+use Rattle.cells.proofs.Product.{final-keeps}
 use Rattle.order.specs.Stale.{is_done, opens, counter_of, Stale, not-above}
 use Rattle.order.specs.Nwk.{Gateway, claimed_pair, held_cell, held_counter, answer, after}
 use Rattle.order.specs.NwkSteps.{Device, Step, opening, securing, taking, after_step}

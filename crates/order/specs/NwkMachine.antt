@@ -7,7 +7,7 @@ use Rattle.std.proofs.Math.ListN.{length-take}
 use borrow.Author.Tests.{eq-eqb, eqb-true, le-ltb, ltb-false}
 use Rattle.cells.specs.ListLaws.{neither, nor, not-not}
 use Rattle.cells.specs.Rows.{Reaction, leave, Settled, find, settle, reply_of}
-use Rattle.cells.specs.RowLaws.{settle-fits}
+use Rattle.cells.proofs.RowLaws.{settle-fits}
 use Rattle.cells.specs.Machine.{Machine}
 use Rattle.nib.specs.declared.counters.CounterRow.{CounterRow}
 use Rattle.nib.specs.declared.keys.NetworkKeys.{NetworkKeys}

@@ -9,8 +9,8 @@ use Rattle.cells.specs.ListLaws.{any_same}
 use Rattle.cells.specs.Machine.{Machine, run}
 use Rattle.cells.specs.Reorder.{Reordered}
 use Rattle.cells.specs.DeskLaws.{desk-state}
-use Rattle.cells.specs.Order.{any_order, same_entries}
-use Rattle.cells.specs.Still.{still-state, still_alike}
+use Rattle.cells.proofs.Order.{any_order, same_entries}
+use Rattle.cells.proofs.Still.{still-state, still_alike}
 use Rattle.nib.specs.declared.counters.CounterRow.{CounterRow}
 use Rattle.nib.specs.declared.keys.NetworkKeys.{NetworkKeys}
 use Rattle.nib.specs.Active.{next}

@@ -55,7 +55,7 @@ pub fn vouch(
 {
     let mut aside = [0u8; 1024];
     let n = frame.len();
-    bytes::copy(frame, &mut aside);
+    octets::copy(frame, &mut aside);
     unprotect(key, sender, counter, &mut aside[..n], at, payload)
 }
 

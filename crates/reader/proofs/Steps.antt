@@ -7,7 +7,7 @@ use Rattle.answer.specs.declared.Refusal.TheVariants.{Unsupported}
 use Rattle.answer.specs.declared.Told.{Told}
 use Rattle.answer.specs.Numbers.{told}
 use Rattle.cells.specs.Rows.{place_of, has_row}
-use Rattle.cells.specs.Search.{lent_row}
+use Rattle.cells.proofs.Search.{lent_row}
 use Rattle.nib.specs.declared.counters.CounterRow.{CounterRow}
 use Rattle.nib.specs.declared.keys.KeyFound.{KeyFound}
 use Rattle.nib.specs.declared.keys.NetworkKey.{NetworkKey}

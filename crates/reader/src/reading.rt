@@ -175,7 +175,7 @@ fn open_copy(reader: Reader, body: &[u8]) -> Step
 {
     let n = body.len();
     let mut frame = [0u8; 1024];
-    bytes::copy(body, &mut frame);
+    octets::copy(body, &mut frame);
     let mut nwk = reader.nwk;
     let rows = reader.rows;
     let opened = nwk_by_value::open_with(nwk, rows, reader.used, &mut frame[..n]);

@@ -31,7 +31,7 @@ pub(crate) fn key_in(s: &[u8]) -> [u8; 16]
     ensures { result ≡ s.now }
 {
     let mut key = [0u8; 16];
-    bytes::copy(s, &mut key);
+    octets::copy(s, &mut key);
     key
 }
 

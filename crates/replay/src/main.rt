@@ -14,8 +14,10 @@ mod spaces;
 mod telling;
 
 use asked::{Case, case_in, fits, size};
-use libc::STDIN_FILENO;
 use parts::part;
+
+// Standard input, as the kit's `io` takes it.
+const STDIN: i32 = 0;
 
 // No run takes more cases.
 const MOST: usize = 1000000;
@@ -77,7 +79,7 @@ fn bad() -> bool {
 // Reads a case and runs it. Whether there may be another.
 fn step(body: &mut [u8], space: &mut [u8]) -> bool {
     let mut head = [0u8; 44];
-    let n = io::read_full(STDIN_FILENO, &mut head);
+    let n = io::read_full(STDIN, &mut head);
     if n == 0 {
         return false;
     }
@@ -89,7 +91,7 @@ fn step(body: &mut [u8], space: &mut [u8]) -> bool {
     if body.len() < wanted {
         return bad();
     }
-    if io::read_full(STDIN_FILENO, &mut body[..wanted]) < wanted {
+    if io::read_full(STDIN, &mut body[..wanted]) < wanted {
         return bad();
     }
     run(case, part(body, 0, wanted), space);

@@ -1,7 +1,9 @@
 // The line that answers a case: answer, start, length, numbers, rows, bytes, with a space between two. `-` is none, `.` what the case does not
 // ask for.
 use crate::parts::{least, part};
-use libc::STDOUT_FILENO;
+
+// Standard output.
+const STDOUT: i32 = 1;
 
 // What a case asks to be shown.
 pub(crate) const ANSWER: u8 = 1;
@@ -18,15 +20,15 @@ pub(crate) const BYTES: u8 = 16;
 const PIECE: usize = 512;
 
 pub(crate) fn text(s: &[u8]) {
-    io::write_all(STDOUT_FILENO, s);
+    io::write_all(STDOUT, s);
 }
 
 pub(crate) fn decimal(n: u64) {
-    io::print_decimal(STDOUT_FILENO, n);
+    io::print_decimal(STDOUT, n);
 }
 
 pub(crate) fn hexadecimal(n: u64, width: usize) {
-    io::print_hex(STDOUT_FILENO, n, width);
+    io::print_hex(STDOUT, n, width);
 }
 
 pub(crate) fn shown(show: u8, what: u8) -> bool {

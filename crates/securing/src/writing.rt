@@ -15,7 +15,7 @@ fn lay(nwk: Nwk, counter: u32, plain: &[u8], out: &mut [u8], header: usize)
         ++ drop (length plain.now + 14) out.old }
 {
     let payload = header + AUXILIARY;
-    bytes::copy(&plain[..header], out);
+    octets::copy(&plain[..header], out);
     auxiliary_header::write(
         out,
         header,
@@ -24,7 +24,7 @@ fn lay(nwk: Nwk, counter: u32, plain: &[u8], out: &mut [u8], header: usize)
         nwk.own,
         nwk.active,
     );
-    bytes::copy(&plain[header..], &mut out[payload..]);
+    octets::copy(&plain[header..], &mut out[payload..]);
 }
 
 // Writes the frame under this counter; what stands in `out` past it stays.

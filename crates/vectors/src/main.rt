@@ -6,8 +6,13 @@
 ghost use Rattle.std.specs.Prelude.{◌<◌};
 
 use answer::Outcome;
-use libc::{STDIN_FILENO, STDOUT_FILENO};
 use mmo::Digest;
+
+// Standard input, as the kit's `io` takes it.
+const STDIN: i32 = 0;
+
+// Standard output.
+const STDOUT: i32 = 1;
 
 // A part of the input.
 #[derive(Clone, Copy)]
@@ -70,19 +75,19 @@ fn number(s: &[u8]) -> usize {
 }
 
 fn print_text(s: &[u8]) {
-    io::write_all(STDOUT_FILENO, s);
+    io::write_all(STDOUT, s);
 }
 
 fn print_bytes(s: &[u8]) {
     let mut i = 0;
     while i < s.len() {
-        io::print_hex(STDOUT_FILENO, wide(s[i]) as u64, 2);
+        io::print_hex(STDOUT, wide(s[i]) as u64, 2);
         i += 1;
     }
 }
 
 fn print_outcome(outcome: Outcome) {
-    io::print_decimal(STDOUT_FILENO, answer::outcome_number(outcome) as u64);
+    io::print_decimal(STDOUT, answer::outcome_number(outcome) as u64);
     print_text(b" ");
 }
 
@@ -227,6 +232,6 @@ fn run_all(s: &[u8]) {
 
 fn main() {
     let mut space = io::large_buffer();
-    let n = io::read_full(STDIN_FILENO, &mut space);
+    let n = io::read_full(STDIN, &mut space);
     run_all(&space[..n]);
 }

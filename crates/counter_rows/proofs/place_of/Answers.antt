@@ -3,7 +3,7 @@ use Rattle.std.proofs.Common.{◌≡◌, Bool, false, ◌&&◌, ap, ◌∙◌, s
 use Rattle.std.specs.Prelude.{eqb}
 use mathlib.Core.Bool.{and-false}
 use Rattle.cells.specs.Rows.{is_row}
-use Rattle.cells.specs.Search.{Passed, at-end, hit, miss}
+use Rattle.cells.proofs.Search.{Passed, at-end, hit, miss}
 use Rattle.nib.specs.Counters.{counter_rows, pair, empty}
 use Rattle.counter_rows.proofs.place_of.Goals as goal
 use Rattle.counter_rows.proofs.place_of.Goals.{then-row-number+else-row-sender, else-row-number}

@@ -1,6 +1,6 @@
 -- `counter_rows::place_of` meets its contract. The loop's invariant: no row below `i` is of that number and sender. Assumes nothing.
 use Rattle.std.proofs.Common.{◌-◌, ◌≤◌}
-use Rattle.cells.specs.Search.{Passed}
+use Rattle.cells.proofs.Search.{Passed}
 use Rattle.nib.specs.Counters.{counter_rows, pair}
 use Rattle.counter_rows.proofs.place_of.Given as goal
 

@@ -1,6 +1,6 @@
 -- `aib::search::place_of` meets its contract: the row at `i` has that device or not, and at the end no row has. Assumes nothing.
 use Rattle.std.proofs.Common.{subst, arith, eq-eqb, ne_eqb}
-use Rattle.cells.specs.Search.{Passed, at-end, hit, miss}
+use Rattle.cells.proofs.Search.{Passed, at-end, hit, miss}
 use Rattle.aib.specs.Pairs.{pair_rows}
 use Rattle.aib.proofs.Rows.{past}
 use Rattle.aib.proofs.search.place_of.Goals as goal

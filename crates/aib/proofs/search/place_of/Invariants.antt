@@ -1,6 +1,6 @@
 -- `aib::search::place_of` meets its contract. The loop's invariant: no row below `i` has that device. Assumes nothing.
 use Rattle.std.proofs.Common.{◌≡◌, ◌-◌, ◌≤◌, length}
-use Rattle.cells.specs.Search.{Passed}
+use Rattle.cells.proofs.Search.{Passed}
 use Rattle.aib.specs.Pairs.{pair_rows}
 use Rattle.aib.proofs.search.place_of.Given as goal
 

@@ -1,6 +1,6 @@
 -- `nib::keys::place_of` meets its contract: the row at `i` is of that number or not, and at the end no row is. Assumes nothing.
 use Rattle.std.proofs.Common.{subst, arith, eq-eqb, ne_eqb}
-use Rattle.cells.specs.Search.{Passed, at-end, hit, miss}
+use Rattle.cells.proofs.Search.{Passed, at-end, hit, miss}
 use Rattle.nib.specs.Keys.{key_rows}
 use Rattle.nib.proofs.Rows.{past}
 use Rattle.nib.proofs.keys.place_of.Goals as goal

@@ -1,6 +1,6 @@
 -- `nib::keys::place_of` meets its contract. The loop's invariant: no row below `i` has that number. Assumes nothing.
 use Rattle.std.proofs.Common.{◌≡◌, ◌-◌, ◌≤◌, length}
-use Rattle.cells.specs.Search.{Passed}
+use Rattle.cells.proofs.Search.{Passed}
 use Rattle.nib.specs.Keys.{key_rows}
 use Rattle.nib.proofs.keys.place_of.Given as goal
 

@@ -1,7 +1,7 @@
 -- `reader::rows::repeated` meets its contract. The loop's invariant: no row below `i` has that number and sender. Assumes nothing.
 use Rattle.std.proofs.Common.{◌≡◌, ◌-◌, ◌≤◌, Bool, false, ◌&&◌, eqb, length, get_or, ap, ◌∙◌, subst, ⊎_elim, arith, rules, eq-eqb, ne_eqb}
 use mathlib.Core.Bool.{and-false}
-use Rattle.cells.specs.Search.{Passed, start, at-end, hit, miss}
+use Rattle.cells.proofs.Search.{Passed, start, at-end, hit, miss}
 use Rattle.nib.specs.Counters.{counter_rows, pair, empty}
 use Rattle.reader.proofs.rows.repeated.Statement.{statement}
 use Rattle.reader.proofs.rows.repeated.Tie as tie
