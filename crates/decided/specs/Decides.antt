@@ -17,7 +17,7 @@ use denote.Triple.Clauses.{Ended, Lasts, AtExit, at_exit, Clauses}
 use Rattle.answer.specs.declared.Outcome.{Outcome}
 use Rattle.answer.specs.Numbers.{when_done, told}
 use Rattle.nib.specs.Counters.{pair, left, held_for, settled, forgotten}
-use Rattle.nib.specs.CounterLaws as counters
+use Rattle.nib.proofs.CounterLaws as counters
 use Rattle.nib.specs.Sending.{took, taken}
 use Rattle.nib.specs.SendingLaws as sending
 use Rattle.nwk.specs.Leaves.{opened, secured}

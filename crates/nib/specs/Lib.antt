@@ -6,7 +6,6 @@ pub mod KeyLaws
 pub mod Pairs
 pub mod Counters
 pub mod Placing
-pub mod CounterLaws
 pub mod Gaps
 pub mod Forgetting
 pub mod Cases

@@ -12,7 +12,7 @@ use Rattle.cells.specs.Machine.{Machine}
 use Rattle.nib.specs.declared.counters.CounterRow.{CounterRow}
 use Rattle.nib.specs.declared.keys.NetworkKeys.{NetworkKeys}
 use Rattle.nib.specs.Counters.{Cell, counter_rows, capacity}
-use Rattle.nib.specs.CounterLaws.{over-used}
+use Rattle.nib.proofs.CounterLaws.{over-used}
 use Rattle.nib.specs.Pairs.{Pair}
 use Rattle.claims.specs.declared.Who.{Who}
 use Rattle.claims.specs.declared.Who.TheVariants.{Told, Claims}

@@ -13,7 +13,7 @@ use Rattle.nib.specs.declared.keys.KeyFound.{KeyFound}
 use Rattle.nib.specs.declared.keys.NetworkKey.{NetworkKey}
 use Rattle.nib.specs.declared.keys.NetworkKeys.{NetworkKeys}
 use Rattle.nib.specs.Counters.{capacity, counting, counter_rows, pair, row_of, empty}
-use Rattle.nib.specs.CounterLaws.{at-le, placed-new}
+use Rattle.nib.proofs.CounterLaws.{at-le, placed-new}
 use Rattle.nib.specs.Keys.{key_found, key_row}
 use Rattle.claims.specs.Claims.{nwk_who}
 use Rattle.protection.specs.Heard.{refused}

@@ -4,7 +4,7 @@ use Rattle.cells.specs.Lists.{keep}
 use Rattle.nib.specs.declared.counters.CounterRow.{CounterRow}
 use Rattle.nib.specs.declared.counters.Recorded.{Recorded}
 use Rattle.nib.specs.Counters.{empty, kept, closed, stays, left, forgotten}
-use Rattle.nib.specs.CounterLaws.{searched-le, forgotten-closing}
+use Rattle.nib.proofs.CounterLaws.{searched-le, forgotten-closing}
 use Rattle.nib.specs.Gaps.{state, at-start, at-end, row_is, goes as goes_up, goes-count, moves as moves_up, moves-count}
 use Rattle.nib.specs.Placing.{searched, closing}
 use Rattle.counter_rows.proofs.forget.Goals as goal

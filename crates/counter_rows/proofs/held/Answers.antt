@@ -1,7 +1,7 @@
 -- `counter_rows::held` meets its contract, by the place that the search yields. Assumes nothing.
 use Rattle.std.proofs.Common.{◌≡◌, ◌<◌, true, length, get_or, sym, ◌∙◌, arith}
 use Rattle.nib.specs.Counters.{pair, empty}
-use Rattle.nib.specs.CounterLaws.{place, held_found, held-nobody}
+use Rattle.nib.proofs.CounterLaws.{place, held_found, held-nobody}
 use Rattle.nib.specs.Placing.{searched}
 use Rattle.counter_rows.proofs.held.Goals as goal
 

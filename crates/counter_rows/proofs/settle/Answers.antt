@@ -2,7 +2,7 @@
 use Rattle.std.proofs.Common.{◌≡◌, ◌<◌, length, set, sym, ap, ◌∙◌, arith, rules}
 use Rattle.nib.specs.declared.counters.Placement.{Placement}
 use Rattle.nib.specs.Counters.{row_pair, left}
-use Rattle.nib.specs.CounterLaws.{place, settles}
+use Rattle.nib.proofs.CounterLaws.{place, settles}
 use Rattle.nib.specs.Placing.{placing}
 use Rattle.counter_rows.proofs.settle.Goals as goal
 use Rattle.counter_rows.proofs.settle.Goals.{then-placed, else-placed}
