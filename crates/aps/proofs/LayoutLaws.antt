@@ -11,7 +11,7 @@ use Rattle.control.specs.Control.{has_number, sent}
 use Rattle.control.specs.ControlLaws.{sent-sender}
 use Rattle.control.specs.declared.KeyIdentifier.{KeyIdentifier}
 use Rattle.auxiliary_header.specs.Auxiliary.{auxiliary_octets}
-use Rattle.auxiliary_header.specs.AuxiliaryLaws.{octets-length}
+use Rattle.auxiliary_header.proofs.AuxiliaryLaws.{octets-length}
 use Rattle.auxiliary_header.specs.Written.{written}
 use Rattle.auxiliary_header.specs.WrittenLaws as writing
 use Rattle.protection.specs.Keys.{key_for}

@@ -25,7 +25,7 @@ use Rattle.control.specs.declared.KeyIdentifier.TheVariants.{Link, Network, Tran
 use Rattle.auxiliary_header.specs.declared.auxiliary.AuxiliaryRead.TheVariants as auxiliary
 use Rattle.auxiliary_header.specs.declared.auxiliary.Sender.TheVariants.{Address}
 use Rattle.auxiliary_header.specs.Auxiliary.{key_used, auxiliary_octets, auxiliary_at}
-use Rattle.auxiliary_header.specs.AuxiliaryLaws.{read_back}
+use Rattle.auxiliary_header.proofs.AuxiliaryLaws.{read_back}
 use Rattle.frame_header.specs.declared.application.ApsRead.TheVariants as aps
 use Rattle.frame_header.specs.Aps.{is_command, aps_length, aps_of}
 use Rattle.frame_header.specs.ApsLaws.{aps-whole}

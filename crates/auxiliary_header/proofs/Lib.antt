@@ -1,1 +1,3 @@
+pub mod AuxiliaryLaws
+pub mod NonceInjective
 pub mod Turns

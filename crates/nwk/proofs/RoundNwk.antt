@@ -21,7 +21,7 @@ use Rattle.auxiliary_header.specs.declared.auxiliary.AuxiliaryRead.TheVariants a
 use Rattle.auxiliary_header.specs.declared.auxiliary.Sender.TheVariants.{Address}
 use Rattle.auxiliary_header.specs.declared.auxiliary.KeyUsed.TheVariants as used
 use Rattle.auxiliary_header.specs.Auxiliary.{auxiliary_octets, auxiliary_at}
-use Rattle.auxiliary_header.specs.AuxiliaryLaws.{read_back}
+use Rattle.auxiliary_header.proofs.AuxiliaryLaws.{read_back}
 use Rattle.frame_header.specs.declared.network.NwkRead.{NwkRead}
 use Rattle.frame_header.specs.declared.network.NwkRead.TheVariants as nwk
 use Rattle.frame_header.specs.Nwk.{nwk_control, nwk_kind, nwk_length, nwk_of}

@@ -10,7 +10,7 @@ use Rattle.laws.specs.Parts.{part-rest, put_two}
 use Rattle.control.specs.Control.{sent, has_sender, has_number}
 use Rattle.control.specs.declared.KeyIdentifier.TheVariants.{Network}
 use Rattle.auxiliary_header.specs.Auxiliary.{auxiliary_octets}
-use Rattle.auxiliary_header.specs.AuxiliaryLaws.{octets-length}
+use Rattle.auxiliary_header.proofs.AuxiliaryLaws.{octets-length}
 use Rattle.nib.specs.declared.keys.KeyFound.{KeyFound}
 use Rattle.nib.specs.Keys.{key_found}
 use Rattle.protection.specs.Protection.{secured_octets}

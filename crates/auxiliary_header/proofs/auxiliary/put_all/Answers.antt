@@ -9,7 +9,7 @@ use lib.Seq.{sets}
 use Rattle.laws.specs.Numbers.{low}
 use Rattle.laws.specs.NumberLaws.{low-length}
 use Rattle.auxiliary_header.specs.Auxiliary.{sender_length, sender_octets, number_octets, auxiliary_octets}
-use Rattle.auxiliary_header.specs.AuxiliaryLaws.{sender-octets}
+use Rattle.auxiliary_header.proofs.AuxiliaryLaws.{sender-octets}
 use Rattle.auxiliary_header.proofs.Turns.{stored_next}
 use Rattle.auxiliary_header.proofs.auxiliary.put_all.Goals as goal
 

@@ -6,7 +6,7 @@ use borrow.Author.Rules.{rules}
 use lib.ListN.{get_or}
 use Rattle.control.specs.Control.{identifier_of}
 use Rattle.auxiliary_header.specs.Auxiliary.{key_used}
-use Rattle.auxiliary_header.specs.AuxiliaryLaws.{read-cut, read_whole}
+use Rattle.auxiliary_header.proofs.AuxiliaryLaws.{read-cut, read_whole}
 use Rattle.auxiliary_header.specs.declared.auxiliary.AuxiliaryRead.TheVariants.{Whole}
 use Rattle.auxiliary_header.proofs.auxiliary.read.Goals as goal
 

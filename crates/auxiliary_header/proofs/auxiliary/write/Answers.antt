@@ -8,7 +8,7 @@ use lib.ListN.{length}
 use Rattle.answer.specs.declared.Outcome.TheVariants.{Refused}
 use Rattle.answer.specs.declared.Refusal.TheVariants.{NoRoom}
 use Rattle.auxiliary_header.specs.Auxiliary.{auxiliary_length, auxiliary_octets}
-use Rattle.auxiliary_header.specs.AuxiliaryLaws.{octets-length}
+use Rattle.auxiliary_header.proofs.AuxiliaryLaws.{octets-length}
 use Rattle.auxiliary_header.specs.Written.{written, outcome_of}
 use Rattle.auxiliary_header.specs.WrittenLaws.{refused, unchanged, done, stored}
 use Rattle.auxiliary_header.proofs.auxiliary.write.Goals as goal
