@@ -25,9 +25,8 @@ unfolding fitting tag_taken
 fits at k room a b c = rw (le-ltb 1024 at a, le-ltb 1024 k b, le-ltb room (at + k + 4) c)
 
 -- what was copied to the front of a longer buffer reads as it was
-pub copied : (f z y : List ℕ) → y ≡ take (length f) f ++ drop (length f) z → take (length f) y ≡ f
-copied f z y e =
-    ap (take (length f)) (e ∙ ap (λ (x : List ℕ). x ++ drop (length f) z) (take-length f)) ∙ take_at f (drop (length f) z) (length f) refl
+pub copied : (f z y : List ℕ) → y ≡ f ++ drop (length f) z → take (length f) y ≡ f
+copied f z y e = ap (take (length f)) e ∙ take_at f (drop (length f) z) (length f) refl
 
 -- an outcome that a test decides
 decided : (v : Bool) (r : Outcome) (why : Refusal) → r ≡ cond v Done (Refused why) → r ≡ Done → true ≡ v
