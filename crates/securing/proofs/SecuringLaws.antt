@@ -27,7 +27,7 @@ auxiliary-size counter own number = octets-length (sent Network) counter own num
 -- header, auxiliary header and payload laid one after another: x is the buffer after the first, y after the second, z what comes back as
 -- the rest after the third
 module _ (plain out a : List ℕ) (header : ℕ) (whole : header ≤ length plain) (size : length a ≡ 14) (room : length plain + 18 ≤ length out) (x y z : List ℕ)
-    (first : x ≡ take (length (take header plain)) (take header plain) ++ drop (length (take header plain)) out) (second : y ≡ written x header a) where
+    (first : x ≡ take header plain ++ drop (length (take header plain)) out) (second : y ≡ written x header a) where
   abbrev front : List ℕ
   front = take header plain
 
@@ -39,20 +39,21 @@ module _ (plain out a : List ℕ) (header : ℕ) (whole : header ≤ length plai
 
   headers-are : y ≡ (front ++ a) ++ drop (header + 14) out
   headers-are =
-      let e : x ≡ front ++ drop header out = first ∙ rw (take-length, front-size) in
+      let e : x ≡ front ++ drop header out = first ∙ rw front-size in
       let l : length x ≡ length out = rw (e, length-append, length-drop, front-size) (omega arith) in
       let t : take header x ≡ front = rw e (take_at front (drop header out) header front-size) in
       let d : drop (header + 14) x ≡ drop (header + 14) out =
       sym (drop-drop 14 header x) ∙ rw (e, drop_at front (drop header out) header front-size, drop-drop 14 header out) in
       second ∙ put x header a (omega arith) ∙ rw (size, t, d, append_assoc)
 
-  pub laid : z ≡ take (length payload) payload ++ drop (length payload) (take (length y - (header + 14)) (drop (header + 14) y))
+  pub laid : z ≡ payload ++ drop (length payload) (take (length y - (header + 14)) (drop (header + 14) y))
       → take (header + 14) y ++ (z ++ drop (length y - (header + 14)) (drop (header + 14) y)) ≡ (((front ++ a) ++ drop header plain) ++ drop (length plain + 14) out)
   laid third =
       let l : length (front ++ a) ≡ header + 14 = rw (length-append, front-size, size) in
       let m : length payload ≡ length plain - header = rw (part-rest header plain, length-drop) in
       let n : (header + 14) + (length plain - header) ≡ length plain + 14 = omega arith in
-      rw (third, headers-are, put_two (header + 14) (length plain - header) (front ++ a) payload out l m, part-rest header plain, n)
+      let p = rw take-length at (put_two (header + 14) (length plain - header) (front ++ a) payload out l m) in
+      rw (third, headers-are, p, part-rest header plain, n)
 
 -- what is sealed after the headers hs: x is the buffer with all laid in it, y after sealing
 module _ (key hs plain out : List ℕ) (own counter header : ℕ) (whole : header ≤ length plain) (size : length hs ≡ header + 14) (x y : List ℕ)
