@@ -1,12 +1,13 @@
 -- Padding: how many octets it has, and how it is written. Assumes nothing.
 use mathlib.Core.Path.{◌≡◌, refl, sym, ap, ◌∙◌}
-use mathlib.Core.List.{List, ◌∷◌, ◌++◌, append_assoc}
-use Prim.Native.Nat.{ℕ, suc, ◌+◌, ◌-◌, ◌%◌, ◌<◌, ◌≤◌}
+use mathlib.Core.List.{List, [], ◌∷◌, ◌++◌, append_assoc}
+use Prim.Native.Nat.{ℕ, suc, ◌+◌, ◌-◌, ◌*◌, ◌%◌, ◌<◌, ◌≤◌}
 use native.Mathlib.Omega.{arith}
 use borrow.Author.Tests.{lt-ltb, le-ltb}
 use lib.ListN.{length, take, drop, set, replicate, length-append, length-replicate, replicate-append-replicate}
 use lib.Seq.{set_at, take_at, drop_at}
-use Rattle.mmo.specs.Hash.{short_padding, long_padding, padding}
+use Rattle.laws.specs.Blocks.{be16}
+use Rattle.mmo.specs.Hash.{be32, short_padding, long_padding, padding}
 
 -- document 01, case P4: the pad octets after 13, 14, 15, 16 and 17
 pub pad-octets : (length (padding 13) ≡ 3) × (length (padding 14) ≡ 18) × (length (padding 15) ≡ 17) × (length (padding 16) ≡ 16) × (length (padding 17) ≡ 15)
@@ -21,6 +22,13 @@ pad-short m h = rw (lt-ltb m 8192 h)
 pub pad-long : (m : ℕ) → 8192 ≤ m → padding m ≡ long_padding m
 unfolding padding
 pad-long m h = rw (le-ltb m 8192 h)
+
+-- how each is made, the number of zeros counted otherwise
+pub short_made : (m z : ℕ) → m < 8192 → z ≡ (29 - m % 16) % 16 → 0x80 ∷ (replicate z 0 ++ be16 (8 * m)) ≡ padding m
+short_made m z h e = rw (pad-short m h, e)
+
+pub long_made : (m z : ℕ) → 8192 ≤ m → z ≡ (25 - m % 16) % 16 → 0x80 ∷ (replicate z 0 ++ (be32 (8 * m) ++ (0 ∷ 0 ∷ []))) ≡ padding m
+long_made m z h e = rw (pad-long m h, e)
 
 -- each makes whole blocks of a message, and no shorter one of its kind would: it has less than a block of zeros
 pub short-whole : (m : ℕ) → ((m + length (short_padding m)) % 16 ≡ 0) × (length (short_padding m) < 3 + 16)

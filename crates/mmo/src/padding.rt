@@ -27,6 +27,7 @@ fn closed(s: &[u8], ending: &[u8]) -> Padded
 }
 
 // s, which is what a message of total bytes has after its last whole block, and then the padding.
+#[tactic(auto, using(crate::proofs::PaddingLaws::short_made, crate::proofs::PaddingLaws::long_made))]
 pub(crate) fn pad(s: &[u8], total: usize) -> Padded
     requires { (total ≤ limit) × (length s.now ≡ total % 16) }
     ensures { (result.len ≤ 32) × (take result.len result.bytes ≡ s.now ++ padding total) }
