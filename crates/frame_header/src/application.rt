@@ -63,6 +63,7 @@ impl ApsControl {
     }
 
     // Not taken: acknowledgement and inter-PAN frames, an extended header, data with the reserved delivery mode.
+    #[tactic(auto, unfolding(crate::specs::Aps::aps_taken))]
     pub fn taken(self) -> bool
         ensures { result ≡ aps_taken self.byte }
     {
@@ -80,6 +81,7 @@ impl ApsControl {
     }
 
     // Frame control and counter; with data also endpoint or group, cluster, profile and source endpoint.
+    #[tactic(auto, unfolding(crate::specs::Aps::aps_length))]
     pub fn length(self) -> usize
         ensures { result ≡ aps_length self.byte }
     {
@@ -90,6 +92,7 @@ impl ApsControl {
     }
 }
 
+#[tactic(auto, unfolding(crate::specs::Aps::aps_of))]
 pub fn aps(s: &[u8]) -> ApsRead
     ensures { result ≡ aps_of s.now }
 {
