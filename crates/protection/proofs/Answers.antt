@@ -5,7 +5,7 @@ use mathlib.Core.List.{List, ◌++◌, append_assoc}
 use Prim.Native.Nat.{ℕ, ◌+◌, ◌-◌, ◌≤◌, ◌<◌}
 use native.Mathlib.Omega.{arith}
 use lib.ListN.{length, take, drop, get_or, set, length-set}
-use lib.Seq.{set-set, set-get_or, set-append_left, take-set-lt, drop-set-lt, length-take-le, get_or-take, take-length, take_at}
+use lib.Seq.{set-set, set-get_or, set-append_left, take-set-lt, drop-set-lt, length-take-le, get_or-take, take_at}
 use borrow.Author.Tests.{le-ltb}
 use Rattle.answer.specs.declared.Outcome.{Outcome}
 use Rattle.answer.specs.declared.Outcome.TheVariants.{Done, Refused}
@@ -26,7 +26,8 @@ fits at k room a b c = rw (le-ltb 1024 at a, le-ltb 1024 k b, le-ltb room (at + 
 
 -- what was copied to the front of a longer buffer reads as it was
 pub copied : (f z y : List ℕ) → y ≡ f ++ drop (length f) z → take (length f) y ≡ f
-copied f z y e = ap (take (length f)) e ∙ take_at f (drop (length f) z) (length f) refl
+copied f z y e =
+    ap (take (length f)) e ∙ take_at f (drop (length f) z) (length f) refl
 
 -- an outcome that a test decides
 decided : (v : Bool) (r : Outcome) (why : Refusal) → r ≡ cond v Done (Refused why) → r ≡ Done → true ≡ v

@@ -1,17 +1,18 @@
 -- `protection::protect` meets its contract. Assumes nothing.
--- after the cipher the buffer is as long as it was
 use mathlib.Core.Path.{◌∙◌}
 use native.Mathlib.Omega.{arith}
 use lib.ListN.{length-set}
-use borrow.Author.Rules.{rules}
 use Rattle.protection.proofs.Answers.{secured}
 use Rattle.protection.proofs.protect.Goals as goal
 
+-- after the cipher the buffer is as long as it was
 pub bounds-out-at-3 : goal.bounds-out-at-3
-bounds-out-at-3 c = omega (arith, c.seal.auto.out ∙ length-set c.args.out.now c.args.at _)
+bounds-out-at-3 c =
+    omega (arith, c.seal.auto.out ∙ length-set c.args.out.now c.args.at _)
 
 pub shape_of-out : goal.shape_of-out
-shape_of-out c = simp length-set (c.seal.auto.out ∙ length-set c.args.out.now c.args.at _)
+shape_of-out c =
+    simp length-set (c.seal.auto.out ∙ length-set c.args.out.now c.args.at _)
 
 pub returns : goal.returns
 returns c =

@@ -1,7 +1,6 @@
 -- `protection::vouch` meets its contract. Assumes nothing.
 use mathlib.Core.Path.{◌≡◌, ◌∙◌, ap, sym}
 use lib.ListN.{length, take}
-use borrow.Author.Rules.{rules}
 use Rattle.protection.specs.Protection.{vouches}
 use Rattle.protection.proofs.Answers.{copied}
 use Rattle.protection.proofs.vouch.Goals as goal

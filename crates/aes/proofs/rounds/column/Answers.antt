@@ -1,5 +1,4 @@
 -- `aes::rounds::column` meets its contract: the four columns added are the rows of MixColumns, by computation. Assumes nothing.
--- two words added
 use mathlib.Core.Path.{ap, ap₂, ◌∙◌}
 use mathlib.Core.List.{List}
 use Prim.Native.Nat.{ℕ}
@@ -8,6 +7,7 @@ use Rattle.words.specs.Words.{bytes}
 use Rattle.aes.specs.Schedule.{xor_word}
 use Rattle.aes.proofs.rounds.column.Goals as goal
 
+-- two words added
 abbrev sum : List ℕ → List ℕ → List ℕ
 sum x y = xor_word x y
 

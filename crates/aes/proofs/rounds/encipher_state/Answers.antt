@@ -1,5 +1,4 @@
 -- `aes::rounds::encipher_state` meets its contract. Assumes nothing.
--- round n
 use mathlib.Core.Path.{ap, ◌∙◌}
 use Prim.Native.Nat.{ℕ}
 use mathlib.Core.List.{List}
@@ -7,6 +6,7 @@ use Rattle.aes.specs.Cipher.{sub_bytes, shift_rows, mix_columns, add_round_key, 
 use Rattle.aes.specs.Words.{key_bytes}
 use Rattle.aes.proofs.rounds.encipher_state.Goals as goal
 
+-- round n
 abbrev turn : List ℕ → ℕ → List ℕ → List ℕ
 turn w n x = add_round_key (mix_columns (shift_rows (sub_bytes x))) w n
 

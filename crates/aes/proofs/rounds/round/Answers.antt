@@ -1,5 +1,4 @@
 -- `aes::rounds::round` meets its contract. Assumes nothing.
--- the new column that is made of columns a, b, c and d
 use mathlib.Core.Path.{sym, ap, ◌∙◌}
 use Prim.Native.Nat.{ℕ, ◌+◌, ◌*◌}
 use mathlib.Core.List.{List, ◌++◌}
@@ -13,6 +12,7 @@ use Rattle.aes.proofs.RoundKeys.{key-at}
 use native.Mathlib.Nat.{add-zero}
 use Rattle.aes.proofs.rounds.round.Goals as goal
 
+-- the new column that is made of columns a, b, c and d
 abbrev mixed : ℕ → ℕ → ℕ → ℕ → List ℕ
 mixed a b c d = mix_column (sbox (byte_of a 0)) (sbox (byte_of b 1)) (sbox (byte_of c 2)) (sbox (byte_of d 3))
 
