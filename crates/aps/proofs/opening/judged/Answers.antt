@@ -1,4 +1,5 @@
 -- `aps::opening::judged` meets its contract. Assumes nothing.
+-- what is known once a key is chosen
 use mathlib.Core.Path.{◌≡◌, sym, ap, ap₂, ◌∙◌}
 use mathlib.Core.Option.{Option}
 use borrow.Author.Rules.{rules}
@@ -10,10 +11,8 @@ use Rattle.protection.specs.Heard.{Heard}
 use Rattle.aps.specs.OpenAps.{link_key}
 use Rattle.aps.specs.Opening.{held_in}
 use Rattle.aps.proofs.OpeningLaws.{judged-refused, Allowed, judged-allowed}
-use Rattle.aps.proofs.opening.judged.Statement.{statement}
-use Rattle.aps.proofs.opening.judged.Tie as tie
+use Rattle.aps.proofs.opening.judged.Goals as goal
 
--- what is known once a key is chosen
 module _ (c : tie.After-key-for) where
   abbrev start : tie.Start
   start = c.before.before.before.before.before.before.before.before
@@ -41,45 +40,23 @@ module _ (c : tie.After-key-for) where
   is_key : c.key-for.result.key ≡ chosen.key
   is_key = c.key-for.ensures.1 ∙ ap (λ (x : Choice). x.key) is-chosen
 
-tried-requires : tie.Need-tried-requires
-tried-requires c κs =
-    let k = c.before.before.before in
-    let s = start k in
-    (s.pre.0, (is-allowed k).size, s.pre.2)
+pub tried-requires : goal.tried-requires
+tried-requires c =
+    let s = start c in
+    (s.pre.0, (is-allowed c).size, s.pre.2)
 
-returns : tie.Need-returns
-returns c =
-    let k = c.before.before in
-    let e = (is-allowed k).barred (sym (is-refused k) ∙ c.if1.true) in
+pub returns-then-chosen : goal.returns-then-chosen
+returns-then-chosen c =
+    let e = (is-allowed c).barred (sym (is-refused c) ∙ c.if-chosen.true) in
     (ap (λ (h : Heard). h.answer) e, ap (λ (h : Heard). h.frame) e)
 
-returns-2 : tie.Need-returns-2
-returns-2 c =
-    let m = c.before.before.before in
-    let a = m.before.before.before.args in
-    let e = judged-refused a.claim (held_in a.held) a.room a.frame.now _ (sym m.allowed.ensures ∙ c.before.refusal.given.1) in
+pub returns-in-Refused : goal.returns-in-Refused
+returns-in-Refused c =
+    let a = c.args in
+    let e = judged-refused a.claim (held_in a.held) a.room a.frame.now _ (sym c.allowed.ensures ∙ c.in-Refused.is) in
     (ap (λ (h : Heard). h.answer) e, ap (λ (h : Heard). h.frame) e)
 
-returns-3 : tie.Need-returns-3
-returns-3 c =
-    let t = c.before.before in
-    let i = t.before.before in
-    let k = i.before.before in
-    let e = (is-allowed k).judged (sym (is-refused k) ∙ i.if1.false) in
-    (t.tried.ensures.0 ∙ rw (is_key k) (ap (λ (h : Heard). h.answer) e), t.tried.ensures.1 ∙ rw (is_key k) (ap (λ (h : Heard). h.frame) e))
-
-pub judged-spec : {M : Type 1} → statement M
-judged-spec =
-    tie.close
-    (tie.spec
-    (λ c κs. search rules)
-    (λ c. search rules)
-    (λ c. search rules)
-    (λ c κs. search rules)
-    (λ c κs. search rules)
-    (λ c κs. search rules)
-    returns
-    tried-requires
-    returns-2
-    (λ c. search rules)
-    returns-3)
+pub returns-else-chosen : goal.returns-else-chosen
+returns-else-chosen c =
+    let e = (is-allowed c).judged (sym (is-refused c) ∙ c.if-chosen.false) in
+    (c.tried.ensures.0 ∙ rw (is_key c) (ap (λ (h : Heard). h.answer) e), c.tried.ensures.1 ∙ rw (is_key c) (ap (λ (h : Heard). h.frame) e))
