@@ -103,6 +103,7 @@ fn nwk_auxiliary(keys: NetworkKeys, frame: &[u8], at: usize) -> Who
 }
 
 // Document 01, opening NWK, up to the keys.
+#[tactic(auto, unfolding(crate::specs::Claims::nwk_who))]
 pub fn nwk_who(keys: NetworkKeys, frame: &[u8]) -> Who
     ensures { result ≡ nwk_who keys frame.now }
 {
@@ -151,6 +152,7 @@ fn aps_auxiliary(frame: &[u8], at: usize) -> Who
 }
 
 // Document 01, opening APS, up to the device.
+#[tactic(auto, unfolding(crate::specs::Claims::aps_who))]
 pub fn aps_who(frame: &[u8]) -> Who
     ensures { result ≡ aps_who frame.now }
 {
