@@ -42,12 +42,6 @@ returns-then-counter c =
     (omega (arith, sends-le x.pairs x.device past sixteen c.if-used-gt16.false))
     (sym (ap (λ (n : ℕ). (get_or x.pairs.rows n past).outgoing) e) ∙ c.if-counter.true)
 
-pub bounds-pairs-at-2 : goal.bounds-pairs-at-2
-bounds-pairs-at-2 c =
-    let x = c.args in
-    let sixteen : length x.pairs.rows ≡ 16 = search rules in
-    omega (arith, sends-le x.pairs x.device past sixteen c.if-used-gt16.false, c.usable_place-at.ensures)
-
 pub returns : goal.returns
 returns c =
     let x = c.args in

@@ -30,12 +30,6 @@ offset_bounds-pairs-at-3 c =
     let sixteen : length x.pairs.rows ≡ 16 = search rules in
     omega (arith, heard-le x.pairs x.device past sixteen c.if-used-gt16.false, c.place_of-at.ensures)
 
-pub bounds-pairs-at : goal.bounds-pairs-at
-bounds-pairs-at c =
-    let x = c.args in
-    let sixteen : length x.pairs.rows ≡ 16 = search rules in
-    omega (arith, heard-le x.pairs x.device past sixteen c.if-used-gt16.false, c.place_of-at.ensures)
-
 pub returns-then-at-used : goal.returns-then-at-used
 returns-then-at-used c =
     let x = c.args in

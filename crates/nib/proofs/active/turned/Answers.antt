@@ -1,10 +1,7 @@
 -- `nib::active::turned` meets its contract, by how its test came out. Assumes nothing.
-use Rattle.std.proofs.Common.{sym, ◌∙◌, rules, eq-eqb, ne_eqb}
+use Rattle.std.proofs.Common.{sym, ◌∙◌, eq-eqb, ne_eqb}
 use Rattle.nib.specs.Active.{turn}
 use Rattle.nib.proofs.active.turned.Goals as goal
-
-pub following-requires : goal.following-requires
-following-requires c = search rules
 
 pub returns-then-number-following : goal.returns-then-number-following
 unfolding turn
