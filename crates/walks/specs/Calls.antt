@@ -6,9 +6,9 @@
 use Rattle.std.specs.Prelude.{◌≡◌, List, [], ◌∷◌}
 use Rattle.std.proofs.Common.{◌∙◌, ap, sym, subst}
 use seplogic.Ra.Ura.{Ura}
-use mir.Syntax.{Name, Place, Opd as Operand, Body, seq, call}
+use mir.Syntax.{Callee, Place, Opd as Operand, Body, seq, call}
 use mir.Val.{Val}
-use base.Logic.{SProp, emp, ent, ex, ex_e, id⊢, sep, snd∗, via}
+use base.Logic.{emp, ent, ex_e, id⊢, snd∗, via}
 use prog.Wp.{Env, Calls, Loops}
 use types.Logic.{Logic, sem}
 use sound.WpLaws.{FmC}
@@ -25,7 +25,7 @@ use denote.Triple.Entry.{Res, alive}
 use denote.Triple.Spec.{triple_of}
 use denote.Triple.Statement.{Triple}
 
-module _ {M : Type 1} {𝓤 : Ura M} {𝓛 : Logic 𝓤} {K : Type 0} {Γ : List (Item 𝓤)} {E : Env 𝓤 𝓛.H} {C : Calls 𝓤 𝓛.H} {f : Name} {xs : List Operand} {Λ : Loops 𝓤 𝓛.H} {q : Post 𝓤 𝓛.H} {d : Place} where
+module _ {M : Type 1} {𝓤 : Ura M} {𝓛 : Logic 𝓤} {K : Type 0} {Γ : List (Item 𝓤)} {E : Env 𝓤 𝓛.H} {C : Calls 𝓤 𝓛.H} {f : Callee} {xs : List Operand} {Λ : Loops 𝓤 𝓛.H} {q : Post 𝓤 𝓛.H} {d : Place} where
   open 𝓛 use {H}
 
   module _ (t : K) (fm : FmC 𝓤 H 𝓛.laws C) {rest : Body} (T : Ended) (c : Clauses 𝓤 T) (met : Triple 𝓤 (C f) (triple_of 𝓛 T.signature (closing 𝓛 T c))) (y : (x : Bound 𝓛 T.signature) × (c x.0 x.3).ghost)

@@ -6,17 +6,17 @@
 --     ends_with        how it ends, and ends-later, where something is given up first: the tokens and the last values ws, with a result r that is v, and a proof of what is ensured
 --     hands            a call of a function with the same parameters, to which all that stands in front is handed on for good: what comes back says the parameters' last values
 --     meets            how such a walk, with the parameters' machine values written out and their relations in hand, becomes the theorem that the check asks
--- `ends_with` takes `Logic`. The rest assumes nothing.
+-- Assumes `Logic`, but for `from-fact`, which assumes nothing.
 use Rattle.std.specs.Prelude.{◌≡◌, List, [], ◌∷◌, ℕ, length}
 use seplogic.Ra.Ura.{Ura}
-use mir.Syntax.{Body, Fn, Name as MName, Opd as Operand, Place, call, seq}
+use mir.Syntax.{Body, Callee, Fn, Opd as Operand, Place, call, seq}
 use mir.Val.{Val}
 use base.Logic.{SProp, ent, id⊢, sep, wand, emp, via, comm∗, mono_l, wand_i, apply∗}
 use prog.Wp.{Calls, Env as PEnv, Loops, WpFn, Closed}
 use prog.Model.{Model}
-use prog.Routine.{Name, Env}
+use prog.Routine.{Env}
 use types.Logic.{Logic, sem}
-use types.Kit.{Goal, Item, Post, Seq, Soaks, Step, lands, runs, step, use2, ‵, raw, ◌⊛◌, later, await, ◌$◌, ◌∵◌, !, qed, move, use0, use1, split, join, show, frame, updating, now as at_once, done}
+use types.Kit.{Goal, Item, Post, Seq, Soaks, Step, lands, runs, step, use2, ‵, raw, later, await, ◌$◌, ◌∵◌, !, qed, move, use0, use1, join, show, frame, updating, now as at_once, done}
 use contract.Monad.{Fun, fact, fact_i}
 use sound.WpLaws.{FmC}
 use types.Run.{Opds}
@@ -85,10 +85,10 @@ module _ {M : Type 1} {𝓤 : Ura M} {𝓛 : Logic 𝓤} {K : Type 0} {Γ : List
       → Step K 𝓛 (‵ (left (((mut_slice_of (j ∷ []) ok s).row κs).exit yes) x l) ∷ Γ) G (‵ (((mut_slice_of (j ∷ []) ok s).row κs).own_val (at_last x l) vs) ∷ Γ) G
   left-slice x l vs same = step (λ q. use1 𝓛 (later (‵ (left (((mut_slice_of (j ∷ []) ok s).row κs).exit yes) x l))) (Goes-slice 𝓛 n j ok s κs x l vs same) $ await t z $ q)
 
-module _ {M : Type 1} {𝓤 : Ura M} {𝓛 : Logic 𝓤} {K : Type 0} {Γ : List (Item 𝓤)} {E : PEnv 𝓤 𝓛.H} {C : Calls 𝓤 𝓛.H} {f : MName} {xs : List Operand} {Λ : Loops 𝓤 𝓛.H} {q : Post 𝓤 𝓛.H} {d : Place} where
-  -- P is what is handed on
+module _ {M : Type 1} {𝓤 : Ura M} {𝓛 : Logic 𝓤} {K : Type 0} {Γ : List (Item 𝓤)} {E : PEnv 𝓤 𝓛.H} {C : Calls 𝓤 𝓛.H} {f : Callee} {xs : List Operand} {Λ : Loops 𝓤 𝓛.H} {q : Post 𝓤 𝓛.H} {d : Place} where
   open 𝓛 use {H}
 
+  -- the entry that stands in front is handed on
   pub hands : (t : K) (fm : FmC 𝓤 H 𝓛.laws C) {rest : Body} (T : Ended) (c : Clauses 𝓤 T) (met : Triple 𝓤 (C f) (Own 𝓛 T c)) (y : (Own 𝓛 T c).Ghost)
       (os : Opds K 𝓛 (raw ((Own 𝓛 T c).pre y) ∷ Γ) E xs (passed 𝓛 T.signature y.0))
       (vals : Res T.signature y.0.0 → List Val) → Tells (type_at T.signature.result y.0.0) (Is (type_at T.signature.result y.0.0)) vals
@@ -109,7 +109,7 @@ from-fact 𝓤 φ x = fact_i 𝓤 φ (emp 𝓤) x
 module _ {M : Type 1} {𝓤 : Ura M} (𝓛 : Logic 𝓤) (𝓜 : Model 𝓤 𝓛.H) (𝓡 : Running 𝓤 𝓛.H 𝓜) where
   open 𝓛 use {H}
 
-  pub meets : (T : Ended) (c : Clauses 𝓤 T) (γ : Env) (k : Name) (e : Fn) → Closed 𝓤 H (tables 𝓤 H 𝓜 𝓡 γ).C (tables 𝓤 H 𝓜 𝓡 γ).Λ k e
+  pub meets : (T : Ended) (c : Clauses 𝓤 T) (γ : Env) (k : Callee) (e : Fn) → Closed 𝓤 H (tables 𝓤 H 𝓜 𝓡 γ).C (tables 𝓤 H 𝓜 𝓡 γ).Λ k e
       → (sp : (κs : Lfts T.signature.lifetimes) → Spells (types_at T.signature.params κs)) → ((κs : Lfts T.signature.lifetimes) → Tellss (types_at T.signature.params κs) (Ises (types_at T.signature.params κs)) (sp κs))
       → ((κs : Lfts T.signature.lifetimes) (qs : Shares T.signature.lifetimes) (bounds : AllOutlive T.signature.lifetimes T.signature.outlives κs) (a : Args T.signature κs) (g : (c κs a).ghost)
       → Are (types_at T.signature.params κs) (Ises (types_at T.signature.params κs)) a (valss (types_at T.signature.params κs) (sp κs) a)

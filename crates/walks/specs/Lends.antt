@@ -1,5 +1,5 @@
 -- What a walk does before and after a call to which it lends what it holds by `&κ mut`, for a lifetime ν that is made for the call.
---     on-shared, on-again      a `&κ mut [T]` is lent on as a `&ν [T]`, or as a `&ν mut [T]`.      on-ref       a `&κ mut T` is lent on as a `&ν mut T`
+--     on-shared, on-again      a `&κ mut [T]` is lent on as a `&ν [T]`, where its elements can be (`Shared.antt`), or as a `&ν mut [T]`.      on-ref       a `&κ mut T` is lent on as a `&ν mut T`
 --     off-shared, off-again, off-ref       ν is over, and the walk has its own again: at the list, or the value, that the callee left
 --     token        the one token of a callee that is lent one reference
 --     learns       the callee has returned r, and the caller knows what the contract says of r and of what it left
@@ -8,7 +8,7 @@ use Rattle.std.specs.Prelude.{◌≡◌, List, [], ◌∷◌, ℕ, length}
 use Rattle.std.proofs.Common.{ap, subst, sym}
 use seplogic.Ra.Ura.{Ura}
 use base.Fraction.{full_share}
-use mir.Syntax.{Lifetime, Name, Place, Opd as Operand, Body, seq, call}
+use mir.Syntax.{Callee, Lifetime, Place, Opd as Operand, Body, seq, call}
 use mir.Val.{Val, vptr}
 use base.Logic.{ent, sep, emp, id⊢}
 use base.Fml.{Lft, GName, Share, Fml, flft, fres, ftrue}
@@ -20,9 +20,12 @@ use types.Kit.{Item, ‵, raw, ◌⊛◌, some, later, Post, Goal, runs, lands, 
 use types.Run.{Opds}
 use types.Tokens.{lft_new, lft_end}
 use Rattle.std.specs.Borrow.{RattleType}
+use denote.Bor.{Bor}
+use denote.Index.{row}
 use denote.Laws.{Is, Tells}
+use denote.Lends.{Lent}
 use denote.Ref.{MutBor, MutRef}
-use denote.Slice.{slice_val, MutSlice, ShrSlice, Room, finally}
+use denote.Slice.{slice_val, MutSlice, ShrSlice, Room, elements_shared, finally}
 use denote.Lend as ref
 use denote.Signature.{type_at}
 use denote.Steps.{heard, only}
@@ -35,9 +38,12 @@ use Rattle.walks.specs.Again.{LentAgain, lends_again, comes_back}
 use Rattle.walks.specs.Calls.{answers}
 use Rattle.walks.specs.Shared.{LentShared, lends_shared, shared_back}
 
--- a list that is lent, and what a `&κ mut` of it owns, which was lent at ys
+-- a list that is lent, by `&mut` and as shared, and what a `&κ mut` of it owns, which was lent at ys
 abbrev list : (R : RattleType) → ℕ → ℕ → GName → List R.Denot → MutBor (List R.Denot)
 list R b o δ l = record { ref_ptr = (b, o); ghost_name = δ; now = l }
+
+abbrev shared : (R : RattleType) → ℕ → ℕ → List R.Denot → Bor (List R.Denot)
+shared R b o l = record { ref_ptr = (b, o); now = l }
 
 abbrev vals : (R : RattleType) → ℕ → ℕ → List R.Denot → List Val
 vals R b o ys = slice_val (b, o) (length ys) ∷ []
@@ -60,11 +66,12 @@ module _ {M : Type 1} {𝓤 : Ura M} {𝓛 : Logic 𝓤} {K : Type 0} {Γ : List
 
   module _ {C : Calls 𝓤 H} {Λ : Loops 𝓤 H} {E : Env 𝓤 H} {body : Body} {p : Post 𝓤 H} (t : K) (R : RattleType) (ℓ ℓ' : Lifetime) (κ : Lft) (q : Share) (γ : GName) (b o : ℕ) where
     module _ (ys : List R.Denot) where
-      pub on-shared : ((ν : ℕ) (δ : GName) → Seq K 𝓛 (‵ (flft (ν ∷ []) full_share) ∷ ‵ ((ShrSlice ℓ' (ν ∷ []) R).own_val (list R b o δ ys) (vals R b o ys)) ∷ ‵ (LentShared R κ (ν ∷ []) q γ b o ys) ∷ Γ) (runs C Λ E body p))
+      pub on-shared : Lent 𝓛 (row R full_share ys b o) (elements_shared R ys b o)
+          → ((ν : ℕ) → Seq K 𝓛 (‵ (flft (ν ∷ []) full_share) ∷ ‵ ((ShrSlice ℓ' (ν ∷ []) R).own_val (shared R b o ys) (vals R b o ys)) ∷ ‵ (LentShared R κ (ν ∷ []) q γ b o ys) ∷ Γ) (runs C Λ E body p))
           → Seq K 𝓛 (‵ (flft κ q) ∷ ‵ (Own R ℓ κ γ b o ys ys) ∷ Γ) (runs C Λ E body p)
-      on-shared k = lft_new t tt (λ ν. move t (2 ∷ 1 ∷ []) $
-          use2 𝓛 (later (some (λ (δ : GName). ‵ ((ShrSlice ℓ' (ν ∷ []) R).own_val (list R b o δ ys) (vals R b o ys)) ⊛ ‵ (LentShared R κ (ν ∷ []) q γ b o ys)))) (lends_shared R κ (ν ∷ []) q γ b o 𝓛 ℓ ℓ' ys) $
-          await t tt $ pick t (λ δ. split t $ move t (2 ∷ 0 ∷ []) $ k ν δ))
+      on-shared lends k = lft_new t tt (λ ν. move t (2 ∷ 1 ∷ []) $
+          use2 𝓛 (later (‵ ((ShrSlice ℓ' (ν ∷ []) R).own_val (shared R b o ys) (vals R b o ys)) ⊛ ‵ (LentShared R κ (ν ∷ []) q γ b o ys))) (lends_shared R κ (ν ∷ []) q γ b o 𝓛 ℓ ℓ' ys lends) $
+          await t tt $ split t $ move t (2 ∷ 0 ∷ []) $ k ν)
 
       pub on-again : ((ν : ℕ) (δ : GName) → Seq K 𝓛 (‵ (flft (ν ∷ []) full_share) ∷ ‵ ((MutSlice ℓ' (ν ∷ []) R).own_val (list R b o δ ys) (vals R b o ys)) ∷ ‵ (LentAgain R κ (ν ∷ []) q γ b o δ ys) ∷ Γ) (runs C Λ E body p))
           → Seq K 𝓛 (‵ (flft κ q) ∷ ‵ (Own R ℓ κ γ b o ys ys) ∷ Γ) (runs C Λ E body p)
@@ -93,7 +100,7 @@ module _ {M : Type 1} {𝓤 : Ura M} {𝓛 : Logic 𝓤} {K : Type 0} {Γ : List
       off-ref ν δ z = step (λ s. lft_end t tt $
           use3 𝓛 (later (‵ (Held R ℓ κ γ b o z) ⊛ ‵ (flft κ q))) (ref.comes_back 𝓛 R ℓ κ (ν ∷ []) q γ b o δ y z) $ await t tt $ split t $ move t (1 ∷ 0 ∷ []) $ s)
 
-module _ {M : Type 1} {𝓤 : Ura M} {𝓛 : Logic 𝓤} {K : Type 0} {Γ : List (Item 𝓤)} {E : Env 𝓤 𝓛.H} {C : Calls 𝓤 𝓛.H} {f : Name} {xs : List Operand} {Λ : Loops 𝓤 𝓛.H} {q : Post 𝓤 𝓛.H} {d : Place} where
+module _ {M : Type 1} {𝓤 : Ura M} {𝓛 : Logic 𝓤} {K : Type 0} {Γ : List (Item 𝓤)} {E : Env 𝓤 𝓛.H} {C : Calls 𝓤 𝓛.H} {f : Callee} {xs : List Operand} {Λ : Loops 𝓤 𝓛.H} {q : Post 𝓤 𝓛.H} {d : Place} where
   open 𝓛 use {H}
 
   module _ (t : K) (fm : FmC 𝓤 H 𝓛.laws C) {rest : Body} (T : Ended) (c : Clauses 𝓤 T) (met : Triple 𝓤 (C f) (triple_of 𝓛 T.signature (closing 𝓛 T c))) (y : (x : Bound 𝓛 T.signature) × (c x.0 x.3).ghost)

@@ -65,24 +65,23 @@ module _ {M : Type 1} {𝓤 : Ura M} (𝓛 : Logic 𝓤) where
       let F : SProp 𝓤 = sep 𝓤 (H.room e.0 e.1 0) (H.dies e.0 e.1) in
       via 𝓤 (sep 𝓤 F (sep 𝓤 R (release 𝓤 H E P))) (mono_r 𝓤 F (before E R P)) (swap F R (release 𝓤 H E P))
 
-  module _ where
-    -- what a local holds is room
-    room : (x : Local) → ent 𝓤 (sem 𝓛 (held x)) (H.room x.0 x.1 0)
-    room (τ, l, none) = id⊢ 𝓤 (H.room τ l 0)
-    room (τ, l, some v) = 𝓛.laws.at_room τ l 0 v
+  -- what a local holds is room
+  room : (x : Local) → ent 𝓤 (sem 𝓛 (held x)) (H.room x.0 x.1 0)
+  room (τ, l, none) = id⊢ 𝓤 (H.room τ l 0)
+  room (τ, l, some v) = 𝓛.laws.at_room τ l 0 v
 
-    freed : (Γ : List (Item 𝓤)) (L : List Local) (Δ : List (Item 𝓤)) (P : SProp 𝓤) → ent 𝓤 (⋆ 𝓛 (Γ ++ Δ)) P → ent 𝓤 (⋆ 𝓛 (Γ ++ stack L Δ)) (release 𝓤 H (places L) P)
-    freed Γ [] Δ P h = h
-    freed Γ (x ∷ L) Δ P h =
-        let R : SProp 𝓤 = H.room x.0 x.1 0 in
-        let D : SProp 𝓤 = H.dies x.0 x.1 in
-        via 𝓤 (release 𝓤 H (places L) (sep 𝓤 (sep 𝓤 R D) P))
-        (freed Γ L (‵ (held x) ∷ ‵ (fdies x.0 x.1) ∷ Δ) (sep 𝓤 (sep 𝓤 R D) P)
-        (via 𝓤 (sep 𝓤 (sem 𝓛 (held x)) (⋆ 𝓛 (Γ ++ (‵ (fdies x.0 x.1) ∷ Δ)))) (out Γ (‵ (held x)) (‵ (fdies x.0 x.1) ∷ Δ))
-        (via 𝓤 (sep 𝓤 R (⋆ 𝓛 (Γ ++ (‵ (fdies x.0 x.1) ∷ Δ)))) (mono_l 𝓤 (⋆ 𝓛 (Γ ++ (‵ (fdies x.0 x.1) ∷ Δ))) (room x))
-        (via 𝓤 (sep 𝓤 R (sep 𝓤 D (⋆ 𝓛 (Γ ++ Δ)))) (mono_r 𝓤 R (out Γ (‵ (fdies x.0 x.1)) Δ))
-        (via 𝓤 (sep 𝓤 R (sep 𝓤 D P)) (mono_r 𝓤 R (mono_r 𝓤 D h)) (assoc' 𝓤 R D P))))))
-        (before (places L) (sep 𝓤 R D) P)
+  freed : (Γ : List (Item 𝓤)) (L : List Local) (Δ : List (Item 𝓤)) (P : SProp 𝓤) → ent 𝓤 (⋆ 𝓛 (Γ ++ Δ)) P → ent 𝓤 (⋆ 𝓛 (Γ ++ stack L Δ)) (release 𝓤 H (places L) P)
+  freed Γ [] Δ P h = h
+  freed Γ (x ∷ L) Δ P h =
+      let R : SProp 𝓤 = H.room x.0 x.1 0 in
+      let D : SProp 𝓤 = H.dies x.0 x.1 in
+      via 𝓤 (release 𝓤 H (places L) (sep 𝓤 (sep 𝓤 R D) P))
+      (freed Γ L (‵ (held x) ∷ ‵ (fdies x.0 x.1) ∷ Δ) (sep 𝓤 (sep 𝓤 R D) P)
+      (via 𝓤 (sep 𝓤 (sem 𝓛 (held x)) (⋆ 𝓛 (Γ ++ (‵ (fdies x.0 x.1) ∷ Δ)))) (out Γ (‵ (held x)) (‵ (fdies x.0 x.1) ∷ Δ))
+      (via 𝓤 (sep 𝓤 R (⋆ 𝓛 (Γ ++ (‵ (fdies x.0 x.1) ∷ Δ)))) (mono_l 𝓤 (⋆ 𝓛 (Γ ++ (‵ (fdies x.0 x.1) ∷ Δ))) (room x))
+      (via 𝓤 (sep 𝓤 R (sep 𝓤 D (⋆ 𝓛 (Γ ++ Δ)))) (mono_r 𝓤 R (out Γ (‵ (fdies x.0 x.1)) Δ))
+      (via 𝓤 (sep 𝓤 R (sep 𝓤 D P)) (mono_r 𝓤 R (mono_r 𝓤 D h)) (assoc' 𝓤 R D P))))))
+      (before (places L) (sep 𝓤 R D) P)
 
 module _ {M : Type 1} {𝓤 : Ura M} {𝓛 : Logic 𝓤} {K : Type 0} where
   open 𝓛 use {H}

@@ -12,16 +12,17 @@ pub use seplogic.Ra.Ura.{Ura}
 pub use base.Fraction.{full_share}
 pub use base.Logic.{SProp, emp, ent, ex_e, fst∗, id⊢, sep, snd∗, via}
 pub use base.Fml.{Fml, GName, Lft, Share, fat, fauth, fbor, fdies, flent, flft, fobor, fobs, fres, froom, fshr_bor, ftrue, fsep, fdead}
-pub use ghost.Atoms.{Atoms, sem}
+pub use ghost.Atoms.{Atoms}
+pub use types.Logic.{Logic, sem}
 pub use prog.Memory.{Memory}
 pub use prog.Model.{Model}
 pub use prog.Routine.{Routine}
 pub use prog.Wp.{Calls, Env, Heap, Loops, Out, Tables, Wp, WpFn, after_block, after_seq, at_return}
 pub use sound.WpLaws.{FmC, WpFn-mono, fm_of}
 pub use contract.Monad.{Fun, fact}
-pub use contract.Running.{given_of, tables, GhostRules, Running}
+pub use contract.Running.{tables, Running}
 -- steps
-pub use types.Kit.{ !, Given, Item, Sq, ◌$◌, ◌∵◌, ◌⊛◌, any_q, at_ret, await, by, done, drop, feq_i, feq_l, fjoin, fjoin3, frame, frees, fsplit, fsplit3, given, join, keep, later, learn, move, pick, prop, qed, raw, rewrite, runs, some, split, suffices, use0, use1, use2, use3, ‵, ⋆, Goal}
+pub use types.Kit.{ !, Item, Sq, ◌$◌, ◌∵◌, ◌⊛◌, any_q, at_ret, await, by, done, drop, feq_i, feq_l, fjoin, fjoin3, frame, frees, fsplit, fsplit3, given, join, keep, later, learn, move, pick, prop, qed, raw, rewrite, runs, some, split, suffices, use0, use1, use2, use3, ‵, ⋆, Goal}
 pub use types.Run.{Below, addr, again, alloc0, alloc1, and_then, assigns, assigns_last, bin, blocks, branches, enter, exec, first, fld, forget, free0, free1, from, hop, init, jumps, land, lit, load, look, look_raw, loops, neg_lit, no_more, of_opd, params1, pass0, pass1, returns, returns_within, skips, stop, store, store_raw, true_lit, false_lit, unit_lit}
 pub use types.Part.{agg, look_in, store_in, sub, whole}
 pub use types.SemTy.{Body}
