@@ -39,12 +39,12 @@ module _ (plain out aux : List ℕ) (header : ℕ) (whole : header ≤ length pl
   headers-length = length-append front aux ∙ omega (arith, front_length)
 
   -- the header copied, the auxiliary header written after it, and the payload copied after that
-  pub laid : (x y z : List ℕ) → x ≡ take (length front) front ++ drop (length front) out → y ≡ written x header aux
-      → z ≡ take (length (take (length plain - header) text)) (take (length plain - header) text) ++ drop (length (take (length plain - header) text)) (take (length y - (header + 13)) (drop (header + 13) y))
+  pub laid : (x y z : List ℕ) → x ≡ front ++ drop (length front) out → y ≡ written x header aux
+      → z ≡ take (length plain - header) text ++ drop (length (take (length plain - header) text)) (take (length y - (header + 13)) (drop (header + 13) y))
       → take (header + 13) y ++ (z ++ drop (length y - (header + 13)) (drop (header + 13) y)) ≡ (front ++ aux) ++ (text ++ drop (length plain + 13) out)
   laid x y z first second third =
       let past = drop (header + 13) out in
-      let x-is : x ≡ front ++ drop header out = first ∙ rw (take-length front, front_length) in
+      let x-is : x ≡ front ++ drop header out = first ∙ rw front_length in
       let x-long : length x ≡ length out = ap length x-is ∙ simp (length-append, length-drop) (omega (arith, front_length)) in
       let x-front : take header x ≡ front = rw x-is (take_at front (drop header out) header front_length) in
       let seam : length front + 13 ≡ header + length aux = omega (arith, front_length) in
@@ -59,7 +59,7 @@ module _ (plain out aux : List ℕ) (header : ℕ) (whole : header ≤ length pl
       let all : take (length plain - header) text ≡ text = take_all (length plain - header) text (omega (arith, text-length)) in
       let end : header + 13 + length text ≡ length plain + 13 = omega (arith, text-length) in
       let last : drop (length text) past ≡ drop (length plain + 13) out = drop-drop (length text) (header + 13) out ∙ ap (λ (n : ℕ). drop n out) end in
-      let z-is : z ≡ text ++ drop (length plain + 13) out = third ∙ rw (all, part, take-length text, last) in
+      let z-is : z ≡ text ++ drop (length plain + 13) out = third ∙ rw (all, part, last) in
       rw (y-front, rest, z-is, append-nil)
 
   -- the payload sealed where it lies

@@ -36,6 +36,7 @@ fn has_room(held: PairFound, used: usize) -> bool
 }
 
 // What the counter held for the device and the frame's size say, before the tag.
+#[tactic(auto, unfolding(crate::specs::Opening::allowed))]
 fn allowed(claim: Claim, held: PairFound, size: usize) -> Outcome
     requires { claim.payload ≤ size }
     ensures { result ≡ allowed claim (incoming (held_in held)) size }

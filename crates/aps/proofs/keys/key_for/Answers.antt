@@ -1,6 +1,5 @@
 -- `aps::keys::key_for` meets its contract. Assumes nothing.
 use mathlib.Core.Path.{◌∙◌}
-use borrow.Author.Rules.{rules}
 use Rattle.protection.specs.Keys.{key_for}
 use Rattle.aps.proofs.keys.key_for.Goals as goal
 

@@ -1,5 +1,4 @@
 -- `aps::opening::has_room` meets its contract. Assumes nothing.
-use borrow.Author.Rules.{rules}
 use Rattle.aps.proofs.opening.has_room.Goals as goal
 
 pub returns-else-held : goal.returns-else-held

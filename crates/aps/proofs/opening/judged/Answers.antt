@@ -1,53 +1,25 @@
 -- `aps::opening::judged` meets its contract. Assumes nothing.
--- what is known once a key is chosen
 use mathlib.Core.Path.{◌≡◌, sym, ap, ap₂, ◌∙◌}
-use mathlib.Core.Option.{Option}
-use borrow.Author.Rules.{rules}
-use Rattle.aib.specs.Pairs.{PairCell}
-use Rattle.claims.specs.declared.Claim.{Claim}
 use Rattle.control.specs.Control.{identifier_of}
 use Rattle.protection.specs.Keys.{Choice, key_for}
 use Rattle.protection.specs.Heard.{Heard}
 use Rattle.aps.specs.OpenAps.{link_key}
 use Rattle.aps.specs.Opening.{held_in}
-use Rattle.aps.proofs.OpeningLaws.{judged-refused, Allowed, judged-allowed}
+use Rattle.aps.proofs.OpeningLaws.{judged-refused, judged-allowed}
 use Rattle.aps.proofs.opening.judged.Goals as goal
-
-module _ (c : tie.After-key-for) where
-  abbrev start : tie.Start
-  start = c.before.before.before.before.before.before.before.before
-
-  abbrev claim : Claim
-  claim = start.args.claim
-
-  abbrev held : Option PairCell
-  held = held_in start.args.held
-
-  is-allowed : Allowed claim held start.args.room start.args.frame.now
-  is-allowed =
-      let t = c.before.before.before in
-      judged-allowed claim held start.args.room start.args.frame.now (sym t.before.before.allowed.ensures ∙ t.enum_told.given.1)
-
-  abbrev chosen : Choice
-  chosen = key_for (identifier_of claim.control.byte) (link_key held)
-
-  is-chosen : key_for c.before.before.key.result c.before.link-key.result ≡ chosen
-  is-chosen = ap₂ key_for c.before.before.key.ensures c.before.link-key.ensures
-
-  is-refused : c.key-for.result.refused ≡ chosen.refused
-  is-refused = c.key-for.ensures.0 ∙ ap (λ (x : Choice). x.refused) is-chosen
-
-  is_key : c.key-for.result.key ≡ chosen.key
-  is_key = c.key-for.ensures.1 ∙ ap (λ (x : Choice). x.key) is-chosen
 
 pub tried-requires : goal.tried-requires
 tried-requires c =
-    let s = start c in
-    (s.pre.0, (is-allowed c).size, s.pre.2)
+    let a = c.args in
+    let z = judged-allowed a.claim (held_in a.held) a.room a.frame.now (sym c.allowed.ensures ∙ c.in-Done.is) in
+    (c.requires.0, z.size, c.requires.2)
 
 pub returns-then-chosen : goal.returns-then-chosen
 returns-then-chosen c =
-    let e = (is-allowed c).barred (sym (is-refused c) ∙ c.if-chosen.true) in
+    let a = c.args in
+    let z = judged-allowed a.claim (held_in a.held) a.room a.frame.now (sym c.allowed.ensures ∙ c.in-Done.is) in
+    let k : key_for c.key.result c.link_key.result ≡ key_for (identifier_of a.claim.control.byte) (link_key (held_in a.held)) = ap₂ key_for c.key.ensures c.link_key.ensures in
+    let e = z.barred (ap (λ (x : Choice). x.refused) (sym k) ∙ sym c.key_for-chosen.ensures.0 ∙ c.if-chosen.true) in
     (ap (λ (h : Heard). h.answer) e, ap (λ (h : Heard). h.frame) e)
 
 pub returns-in-Refused : goal.returns-in-Refused
@@ -58,5 +30,9 @@ returns-in-Refused c =
 
 pub returns-else-chosen : goal.returns-else-chosen
 returns-else-chosen c =
-    let e = (is-allowed c).judged (sym (is-refused c) ∙ c.if-chosen.false) in
-    (c.tried.ensures.0 ∙ rw (is_key c) (ap (λ (h : Heard). h.answer) e), c.tried.ensures.1 ∙ rw (is_key c) (ap (λ (h : Heard). h.frame) e))
+    let a = c.args in
+    let z = judged-allowed a.claim (held_in a.held) a.room a.frame.now (sym c.allowed.ensures ∙ c.in-Done.is) in
+    let k : key_for c.key.result c.link_key.result ≡ key_for (identifier_of a.claim.control.byte) (link_key (held_in a.held)) = ap₂ key_for c.key.ensures c.link_key.ensures in
+    let e = z.judged (ap (λ (x : Choice). x.refused) (sym k) ∙ sym c.key_for-chosen.ensures.0 ∙ c.if-chosen.false) in
+    let is_key = c.key_for-chosen.ensures.1 ∙ ap (λ (x : Choice). x.key) k in
+    (c.tried.ensures.0 ∙ rw is_key (ap (λ (h : Heard). h.answer) e), c.tried.ensures.1 ∙ rw is_key (ap (λ (h : Heard). h.frame) e))

@@ -1,6 +1,5 @@
 -- `aps::opening::kept` meets its contract. Assumes nothing.
 use mathlib.Core.Path.{ap, ◌∙◌}
-use borrow.Author.Rules.{rules}
 use Rattle.aib.specs.declared.counters.Recorded.{Recorded}
 use Rattle.aps.proofs.opening.kept.Goals as goal
 

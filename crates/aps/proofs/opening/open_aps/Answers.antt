@@ -1,6 +1,5 @@
 -- `aps::opening::open_aps` meets its contract. Assumes nothing.
 use mathlib.Core.Path.{sym, ap, ◌∙◌}
-use borrow.Author.Rules.{rules}
 use Rattle.claims.proofs.ClaimLaws.{aps-claim}
 use Rattle.aps.proofs.OpeningLaws.{fit, opens-unfit, opens-told, opens-claim}
 use Rattle.aps.specs.OpenAps.{Opened}

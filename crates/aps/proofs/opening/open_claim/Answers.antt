@@ -1,10 +1,10 @@
 -- `aps::opening::open_claim` meets its contract. Assumes nothing.
+use lib.ListN.{length}
 use mathlib.Core.Path.{◌≡◌, ap, ◌∙◌}
 use borrow.Author.Rules.{rules}
 use Rattle.cells.specs.Rows.{find, room}
 use Rattle.aib.specs.Counters.{in_use}
 use Rattle.aib.specs.Pairs.{pair_rows, pair_found}
-use Rattle.aib.proofs.Rows.{sixteen}
 use Rattle.protection.specs.Heard.{Heard}
 use Rattle.aps.proofs.OpeningLaws.{held-is, room-is, commits}
 use Rattle.aps.specs.Opening.{held_in, replied, kept}
@@ -15,7 +15,7 @@ pub returns : goal.returns
 returns c =
     let a = c.args in
     let d = a.claim.sender in
-    let long = sixteen a.pairs _ c.well-formed.0 in
+    let long : length a.pairs.rows ≡ 16 = search rules in
     let e : c.find-held.result ≡ pair_found a.pairs d = c.find-held.ensures in
     let held : held_in c.find-held.result ≡ find pair_rows (in_use a.pairs) d = ap held_in e ∙ held-is a.pairs d in
     let free : c.has_room.result ≡ room pair_rows 16 (in_use a.pairs) d = c.has_room.ensures ∙ rw e (room-is a.pairs d long c.requires.0) in

@@ -1,6 +1,5 @@
 -- `aps::opening::tried` meets its contract. Assumes nothing.
 use mathlib.Core.Path.{◌∙◌}
-use borrow.Author.Rules.{rules}
 use Rattle.aps.specs.Opening.{tried}
 use Rattle.aps.proofs.opening.tried.Goals as goal
 

@@ -1,6 +1,5 @@
 -- `aps::securing::put` meets its contract. Assumes nothing.
 use mathlib.Core.Path.{refl}
-use borrow.Author.Rules.{rules}
 use Rattle.control.specs.Control.{sent}
 use Rattle.auxiliary_header.specs.Auxiliary.{auxiliary_octets}
 use Rattle.aps.proofs.LayoutLaws.{thirteen, finished}

@@ -1,31 +1,31 @@
 -- `aps::securing::secure_aps` meets its contract. Assumes nothing.
--- what a frame that goes out has passed
 use mathlib.Core.List.{◌++◌}
 use mathlib.Core.Path.{sym, ap, ◌∙◌}
 use Prim.Native.Nat.{ℕ, ◌+◌}
 use native.Mathlib.Omega.{arith}
 use lib.ListN.{length, drop}
-use borrow.Author.Rules.{rules}
 use Rattle.aib.specs.declared.counters.Advanced.{Advanced}
-use Rattle.aps.proofs.SendingLaws.{Ready, ready, refuses}
+use Rattle.aps.proofs.SendingLaws.{ready, refuses}
 use Rattle.aps.specs.SecureAps.{Secured, aps_on_air}
 use Rattle.aps.proofs.securing.secure_aps.Goals as goal
 
-is-ready : (c : goal.In-Key-2) → Ready c.args.aps c.args.pairs c.args.device c.args.extended c.args.plain.now c.args.out.now c.usable-found.result c.usable-found.ensures c.in-Key.identifier
-is-ready c =
-    let a = c.args in
-    ready a.aps a.pairs a.device a.extended a.plain.now a.out.now c.usable-found.result c.usable-found.ensures _ (sym c.judged.ensures ∙ c.in-Key.is)
-
 pub bounds-plain-0 : goal.bounds-plain-0
-bounds-plain-0 c = (is-ready c).taken.some-octets
+bounds-plain-0 c =
+    let a = c.args in
+    let r = ready a.aps a.pairs a.device a.extended a.plain.now a.out.now c.usable-found.result c.usable-found.ensures _ (sym c.judged.ensures ∙ c.in-Key.is) in
+    r.taken.some-octets
 
 pub put-requires : goal.put-requires
 put-requires c =
-    let r = is-ready c in
+    let a = c.args in
+    let r = ready a.aps a.pairs a.device a.extended a.plain.now a.out.now c.usable-found.result c.usable-found.ensures _ (sym c.judged.ensures ∙ c.in-Key.is) in
     (r.goes-out.number, rw c.length-header.ensures r.taken.header, r.taken.small, r.goes-out.space)
 
 pub overflow_add-result : goal.overflow_add-result
-overflow_add-result c = omega (arith, (is-ready c).taken.small)
+overflow_add-result c =
+    let a = c.args in
+    let r = ready a.aps a.pairs a.device a.extended a.plain.now a.out.now c.usable-found.result c.usable-found.ensures _ (sym c.judged.ensures ∙ c.in-Key.is) in
+    omega (arith, r.taken.small)
 
 pub returns-in-Refused : goal.returns-in-Refused
 returns-in-Refused c =
@@ -35,8 +35,8 @@ returns-in-Refused c =
 
 pub returns-in-Key : goal.returns-in-Key
 returns-in-Key c =
-    let r = is-ready c in
     let a = c.args in
+    let r = ready a.aps a.pairs a.device a.extended a.plain.now a.out.now c.usable-found.result c.usable-found.ensures _ (sym c.judged.ensures ∙ c.in-Key.is) in
     let n = length a.plain.now in (
       ap (λ (o : Secured). o.answer) r.done,
       ap (λ (x : Advanced). x.pairs) c.advance.ensures ∙ r.moved ∙ ap (λ (o : Secured). o.pairs) r.done,

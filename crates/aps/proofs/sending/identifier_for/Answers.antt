@@ -3,7 +3,6 @@ use mathlib.Core.Bool.{true, false}
 use mathlib.Core.Path.{◌≡◌, sym, ap, ◌∙◌}
 use native.Mathlib.Omega.{arith}
 use lib.ListN.{get_or}
-use borrow.Author.Rules.{rules}
 use Rattle.frame_header.specs.Aps.{is_command}
 use Rattle.aps.proofs.SendingLaws.{header-small}
 use Rattle.aps.proofs.sending.identifier_for.Goals as goal

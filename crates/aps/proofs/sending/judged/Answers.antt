@@ -1,6 +1,5 @@
 -- `aps::sending::judged` meets its contract. Assumes nothing.
 use mathlib.Core.Path.{sym, ◌∙◌}
-use borrow.Author.Rules.{rules}
 use Rattle.aps.proofs.SendingLaws.{plain-is-taken}
 use Rattle.aps.specs.Sending.{judgement}
 use Rattle.aps.proofs.sending.judged.Goals as goal

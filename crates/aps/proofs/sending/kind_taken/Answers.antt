@@ -1,6 +1,5 @@
 -- `aps::sending::kind_taken` meets its contract. Assumes nothing.
 use borrow.Author.Tests.{lt-ltb, le-ltb}
-use borrow.Author.Rules.{rules}
 use Rattle.aps.specs.Sending.{kind_taken}
 use Rattle.aps.proofs.sending.kind_taken.Goals as goal
 

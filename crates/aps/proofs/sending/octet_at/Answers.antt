@@ -1,7 +1,6 @@
 -- `aps::sending::octet_at` meets its contract. Assumes nothing.
 use mathlib.Core.Path.{sym}
 use lib.ListN.{get_or-eq_default}
-use borrow.Author.Rules.{rules}
 use Rattle.aps.proofs.sending.octet_at.Goals as goal
 
 pub returns-else-at-plain : goal.returns-else-at-plain

@@ -1,7 +1,6 @@
 -- `aps::sending::plain_taken` meets its contract. Assumes nothing.
 use mathlib.Core.Path.{◌∙◌}
 use borrow.Author.Tests.{eq-eqb, ne_eqb, lt-ltb, le-ltb}
-use borrow.Author.Rules.{rules}
 use Rattle.aps.specs.Sending.{plain_taken}
 use Rattle.aps.proofs.sending.plain_taken.Goals as goal
 

@@ -1,6 +1,5 @@
 -- `aps::sending::sendable` meets its contract. Assumes nothing.
 use borrow.Author.Tests.{not-true, not-false, eq-eqb, ne_eqb, lt-ltb, le-ltb}
-use borrow.Author.Rules.{rules}
 use Rattle.aps.proofs.sending.sendable.Goals as goal
 
 pub returns-then-not-found : goal.returns-then-not-found

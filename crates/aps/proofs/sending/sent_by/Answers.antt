@@ -1,5 +1,4 @@
 -- `aps::sending::sent_by` meets its contract. Assumes nothing.
-use borrow.Author.Rules.{rules}
 use Rattle.aps.specs.Sending.{sent_by}
 use Rattle.aps.proofs.sending.sent_by.Goals as goal
 

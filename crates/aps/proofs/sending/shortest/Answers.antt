@@ -1,6 +1,5 @@
 -- `aps::sending::shortest` meets its contract. Assumes nothing.
 use native.Mathlib.Omega.{arith}
-use borrow.Author.Rules.{rules}
 use Rattle.aps.proofs.SendingLaws.{header-small}
 use Rattle.aps.proofs.sending.shortest.Goals as goal
 
