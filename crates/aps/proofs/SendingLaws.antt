@@ -27,7 +27,7 @@ use Rattle.claims.specs.Claims.{spent}
 use Rattle.aps.specs.declared.state.Aps.{Aps}
 use Rattle.aps.specs.declared.sending.Chosen.{Chosen}
 use Rattle.aps.specs.declared.sending.Chosen.TheVariants as chosen
-use Rattle.aps.specs.SecureAps.{Secured, not_secured, is_transport_key, carried, identifier_for, aps_done, aps_sent, aps_keyed, secure_aps}
+use Rattle.aps.specs.SecureAps.{Secured, not_secured, is_transport_key, identifier_for, aps_done, aps_sent, aps_keyed, secure_aps}
 use Rattle.aps.specs.Sending.{choice, shortest, kind_taken, plain_taken, row_in, row_sends, sendable, unless, by_sending, sent_by, judgement}
 
 -- ---- sizes
@@ -56,19 +56,6 @@ header-shortest control = at (is_command control)
     at : (t : Bool) → aps_length control ≤ cond t (aps_length control + 1) (aps_length control)
     at true = omega arith
     at false = omega arith
-
--- ---- key types
-
-pub carries-load : (kind : ℕ) → 3 ≤ kind → kind < 5 → chosen.Key Load ≡ choice (carried kind)
-carries-load kind l u = rw (ne_eqb kind 1 (λ e. omega arith)) (at (eqb kind 3) (eqb kind 4) refl refl)
-  where
-    at : (t v : Bool) → eqb kind 3 ≡ t → eqb kind 4 ≡ v → chosen.Key Load ≡ choice (cond t (some Load) (cond v (some Load) none))
-    at true v p q = refl
-    at false true p q = refl
-    at false false p q = absurd (omega (arith, eqb-false kind 3 p, eqb-false kind 4 q))
-
-pub carries-none : (kind : ℕ) → (kind ≡ 1 → ⊥) → (kind ≡ 3 → ⊥) → (kind ≡ 4 → ⊥) → chosen.Refused Unsupported ≡ choice (carried kind)
-carries-none kind a b c = rw (ne_eqb kind 1 a, ne_eqb kind 3 b, ne_eqb kind 4 c)
 
 -- a frame that is secured carries no key number
 numberless : (plain : List ℕ) (header : ℕ) (identifier : KeyIdentifier) → choice (identifier_for plain header) ≡ chosen.Key identifier → has_number (sent identifier) ≡ false

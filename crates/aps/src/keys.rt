@@ -20,6 +20,7 @@ pub(crate) struct KeyChoice {
 }
 
 // The link key itself, its hash for carrying keys, or a refusal: the network key is NWK's.
+#[tactic(auto, unfolding(protection::specs::Keys::key_for))]
 pub(crate) fn key_for(identifier: KeyIdentifier, link: [u8; 16]) -> KeyChoice
     ensures { (result.refused ≡ (key_for identifier link).refused) × (result.key ≡ (key_for identifier link).key) }
 {

@@ -56,6 +56,7 @@ fn allowed(claim: Claim, held: PairFound, size: usize) -> Outcome
 }
 
 // The tag is checked before the room for a new row; without room nothing is opened.
+#[tactic(auto, unfolding(crate::specs::Opening::tried))]
 fn tried(claim: Claim, key: [u8; 16], room: bool, frame: &mut [u8]) -> Answer
     requires { (claim.at < claim.payload) × (claim.payload + 4 ≤ length frame.old) × (length frame.old ≤ 1024) }
     ensures { (result ≡ (tried claim key room frame.old).answer)

@@ -66,6 +66,7 @@ fn shortest(control: ApsControl) -> usize
     }
 }
 
+#[tactic(auto, unfolding(crate::specs::Sending::kind_taken))]
 fn kind_taken(control: ApsControl, size: usize) -> Outcome
     ensures { result ≡ kind_taken control.byte size }
 {
@@ -81,6 +82,7 @@ fn kind_taken(control: ApsControl, size: usize) -> Outcome
     Outcome::Done
 }
 
+#[tactic(auto, unfolding(crate::specs::Sending::plain_taken))]
 fn plain_taken(aps: Aps, used: usize, plain: &[u8]) -> Outcome
     ensures { result ≡ plain_taken aps used plain.now }
 {
@@ -123,6 +125,7 @@ fn sendable(found: PairFound, command: bool, extended: bool, size: usize, room: 
     Outcome::Done
 }
 
+#[tactic(auto, unfolding(crate::specs::Sending::sent_by))]
 fn sent_by(found: PairFound, extended: bool, plain: &[u8], room: usize) -> Chosen
     requires { (0 < length plain.now) × (length plain.now ≤ 1006) }
     ensures { result ≡ sent_by (row_in found) extended plain.now room }

@@ -1,16 +1,6 @@
 -- `aps::securing::lay` meets its contract. Assumes nothing.
-use mathlib.Core.Path.{sym}
-use native.Mathlib.Omega.{arith}
-use lib.ListN.{length-take}
-use lib.Seq.{length-take-le}
 use Rattle.aps.proofs.LayoutLaws.{thirteen, laid}
 use Rattle.aps.proofs.securing.lay.Goals as goal
-
-pub slice_bounds-copy-end : goal.slice_bounds-copy-end
-slice_bounds-copy-end c = sym (length-take-le c.args.header c.args.plain.now c.requires.1)
-
-pub copy-requires : goal.copy-requires
-copy-requires c = simp length-take (omega arith)
 
 pub returns : goal.returns
 returns c =

@@ -2,7 +2,6 @@
 use mathlib.Core.List.{◌++◌}
 use mathlib.Core.Path.{sym, ap, ◌∙◌}
 use Prim.Native.Nat.{ℕ, ◌+◌}
-use native.Mathlib.Omega.{arith}
 use lib.ListN.{length, drop}
 use Rattle.aib.specs.declared.counters.Advanced.{Advanced}
 use Rattle.aps.proofs.SendingLaws.{ready, refuses}
@@ -20,12 +19,6 @@ put-requires c =
     let a = c.args in
     let r = ready a.aps a.pairs a.device a.extended a.plain.now a.out.now c.usable-found.result c.usable-found.ensures _ (sym c.judged.ensures ∙ c.in-Key.is) in
     (r.goes-out.number, rw c.length-header.ensures r.taken.header, r.taken.small, r.goes-out.space)
-
-pub overflow_add-result : goal.overflow_add-result
-overflow_add-result c =
-    let a = c.args in
-    let r = ready a.aps a.pairs a.device a.extended a.plain.now a.out.now c.usable-found.result c.usable-found.ensures _ (sym c.judged.ensures ∙ c.in-Key.is) in
-    omega (arith, r.taken.small)
 
 pub returns-in-Refused : goal.returns-in-Refused
 returns-in-Refused c =
