@@ -1,0 +1,10 @@
+-- `replay::gateway::rows_of` meets its contract. Assumes nothing.
+use Prim.Native.Nat.{◌-◌, ◌≤◌}
+use borrow.Author.Rules.{rules}
+use Rattle.replay.proofs.gateway.rows_of.Given as goal
+
+abbrev pub invariant-loop-i : goal.invariant-loop-i
+invariant-loop-i l = l.i ≤ 64
+
+abbrev pub decreases-loop-i : goal.decreases-loop-i
+decreases-loop-i l = 64 - l.i
