@@ -1,7 +1,7 @@
 -- Laws of XOR: of numbers (it associates and cancels), of strings of octets, and the test that all differences are zero.
 -- Assumes nothing.
 use Rattle.std.specs.Prelude.{◌≡◌, refl, true, false, ◌&&◌, List, [], ◌∷◌, ◌++◌, ℕ, zero, suc, ◌+◌, ◌*◌, ◌/◌, ◌%◌, ◌<◌, ◌≤◌, min, eqb, length, take, drop, replicate, get_or, set}
-use Rattle.std.proofs.Common.{sym, ap, ap₂, ◌∙◌, append_assoc, append-nil, not-suc-le-zero, le_of_suc-le-suc, suc-ne-zero, arith, length-take, length-drop, length-append, take-append-drop, drop_of_length-le, drop-cons, take_all, take-suc-set, drop-set-lt, eq-eqb, ne_eqb, eqb-true}
+use Rattle.std.proofs.Common.{sym, ap, ap₂, ◌∙◌, append_assoc, append-nil, not-suc-le-zero, le_of_suc-le-suc, suc-ne-zero, arith, take-append-drop, drop_of_length-le, drop-cons, take_all, take-suc-set, drop-set-lt, eq-eqb, ne_eqb, eqb-true}
 use Rattle.std.proofs.Math.Bool.{and_assoc, and-false, and-eq-true_iff}
 use Rattle.std.proofs.lemmas.Bool.{false≢true}
 use Rattle.std.proofs.Math.Decide.{dec_le, ℕ_discrete}

@@ -1,6 +1,5 @@
 -- `answer::told_of` meets its contract: each arm is given that the answer is its constructor. Assumes nothing.
 use mathlib.Core.Path.{sym, ap, ◌∙◌}
-use borrow.Author.Rules.{rules}
 use Rattle.answer.specs.Numbers.{told}
 use Rattle.answer.proofs.told_of.Goals as goal
 

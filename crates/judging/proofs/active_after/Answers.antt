@@ -1,6 +1,5 @@
 -- `judging::active_after` meets its contract. Assumes nothing.
 use mathlib.Core.Path.{◌∙◌}
-use borrow.Author.Rules.{rules}
 use Rattle.judging.proofs.active_after.Goals as goal
 
 pub returns-in-Done : goal.returns-in-Done

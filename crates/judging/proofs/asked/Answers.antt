@@ -1,5 +1,4 @@
 -- `judging::asked` meets its contract. Assumes nothing.
-use borrow.Author.Rules.{rules}
 use Rattle.judging.specs.Halves.{nwk_asked}
 use Rattle.judging.proofs.asked.Goals as goal
 

@@ -1,5 +1,4 @@
 -- `judging::caller_of` meets its contract. Assumes nothing.
-use borrow.Author.Rules.{rules}
 use Rattle.judging.proofs.caller_of.Goals as goal
 
 pub returns-in-Told : goal.returns-in-Told

@@ -1,5 +1,4 @@
 -- `judging::fresh` meets its contract. Assumes nothing.
-use borrow.Author.Rules.{rules}
 use borrow.Author.Tests.{eq-eqb, ne_eqb, lt-ltb, le-ltb}
 use Rattle.judging.proofs.fresh.Goals as goal
 

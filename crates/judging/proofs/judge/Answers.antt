@@ -1,5 +1,4 @@
 -- `judging::judge` meets its contract. Assumes nothing.
-use borrow.Author.Rules.{rules}
 use Rattle.judging.proofs.Commit.{claim-judged}
 use Rattle.judging.proofs.judge.Goals as goal
 

@@ -1,6 +1,5 @@
 -- `judging::judged` meets its contract. Assumes nothing.
 use mathlib.Core.Path.{sym, ap, ◌∙◌}
-use borrow.Author.Rules.{rules}
 use Rattle.protection.specs.Heard.{Heard}
 use Rattle.judging.proofs.Commit.{judged-stale, judged-as-fresh}
 use Rattle.judging.proofs.judged.Goals as goal

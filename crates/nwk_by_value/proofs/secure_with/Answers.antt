@@ -1,5 +1,4 @@
 -- `nwk_by_value::secure_with` meets its contract. Assumes nothing.
-use borrow.Author.Rules.{rules}
 use borrow.Author.Tests.{not-false, not-true}
 use Rattle.securing.proofs.ReadyLaws.{goes, secured-kept, secured-sent}
 use Rattle.nwk_by_value.proofs.secure_with.Goals as goal

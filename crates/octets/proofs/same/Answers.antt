@@ -1,14 +1,13 @@
 -- `octets::same` meets its contract. The invariant: no difference so far, and what is left is the same, exactly where the whole is the same.
 -- Assumes nothing.
 use mathlib.Core.Path.{◌≡◌, sym, ◌∙◌}
-use mathlib.Core.Bool.{◌&&◌, and-true}
-use Prim.Native.Nat.{◌-◌, ◌≤◌, ◌<◌}
+use mathlib.Core.Bool.{and-true}
+use Prim.Native.Nat.{◌<◌}
 use native.Mathlib.Numerals.{add-one}
 use native.Mathlib.Omega.{arith}
 use lib.ListN.{length, drop, length-drop}
 use lib.Dec.{eqb}
 use borrow.Author.Rules.{rules}
-use Rattle.laws.specs.Octets.{same}
 use Rattle.laws.specs.XorLaws.{same_turn, same-nil, same_length}
 use Rattle.octets.proofs.same.Goals as goal
 

@@ -1,13 +1,10 @@
 -- `octets::xor_into` meets its contract. The invariant: what is done, followed by what is left XOR what is left of `src`, is the whole XOR.
 -- Assumes nothing.
-use mathlib.Core.Path.{◌≡◌, sym, ◌∙◌}
-use Prim.Native.Nat.{◌-◌, ◌≤◌, ◌<◌, min}
-use native.Mathlib.Numerals.{add-one}
+use mathlib.Core.Path.{◌≡◌}
+use Prim.Native.Nat.{◌-◌, ◌≤◌, min}
 use mathlib.Core.List.{◌++◌}
-use lib.ListN.{length, take, drop, length-set}
-use borrow.Author.Rules.{rules}
+use lib.ListN.{length, take, drop}
 use Rattle.laws.specs.Octets.{◌⊕◌}
-use Rattle.laws.specs.XorLaws.{xor-turn, xor-done}
 use Rattle.octets.proofs.xor_into.Given as goal
 
 abbrev pub invariant-loop-j : goal.invariant-loop-j

@@ -1,7 +1,6 @@
 -- `words::added` meets its contract: XOR of strings of sixteen computes to that of their words. Assumes nothing.
 use mathlib.Core.List.{◌++◌}
 use Rattle.laws.specs.Octets.{◌⊕◌}
-use borrow.Author.Rules.{rules}
 use Rattle.words.proofs.added.Goals as goal
 
 pub returns : goal.returns

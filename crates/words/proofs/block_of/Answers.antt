@@ -1,6 +1,5 @@
 -- `words::block_of` meets its contract. Assumes nothing.
 use mathlib.Core.List.{[], ◌∷◌}
-use borrow.Author.Rules.{rules}
 use Rattle.words.proofs.block_of.Goals as goal
 
 pub returns : goal.returns

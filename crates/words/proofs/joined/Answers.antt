@@ -1,7 +1,6 @@
 -- `words::joined` meets its contract. Assumes nothing.
 use Rattle.words.proofs.WordLaws.{word_bytes}
 use native.Mathlib.Omega.{arith}
-use borrow.Author.Rules.{rules}
 use Rattle.words.proofs.joined.Goals as goal
 
 pub returns : goal.returns

@@ -1,7 +1,6 @@
 -- `securing::ready::framed` meets its contract. Assumes nothing.
-use mathlib.Core.Path.{◌≡◌, ap, ◌∙◌}
+use mathlib.Core.Path.{ap, ◌∙◌}
 use borrow.Author.Tests.{le-leb, lt-leb, lt-ltb, le-ltb}
-use borrow.Author.Rules.{rules}
 use Rattle.nib.specs.Sending.{may_use}
 use Rattle.securing.proofs.ready.framed.Goals as goal
 

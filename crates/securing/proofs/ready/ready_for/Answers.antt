@@ -1,7 +1,6 @@
 -- `securing::ready::ready_for` meets its contract. Assumes nothing.
 use mathlib.Core.Path.{◌∙◌}
 use borrow.Author.Tests.{eq-eqb, ne_eqb, lt-ltb, le-ltb}
-use borrow.Author.Rules.{rules}
 use Rattle.securing.specs.Ready.{ready_for}
 use Rattle.securing.proofs.ready.ready_for.Goals as goal
 

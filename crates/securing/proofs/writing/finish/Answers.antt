@@ -1,5 +1,4 @@
 -- `securing::writing::finish` meets its contract. Assumes nothing.
-use borrow.Author.Rules.{rules}
 use Rattle.securing.proofs.SecuringLaws.{finished}
 use Rattle.securing.proofs.writing.finish.Goals as goal
 

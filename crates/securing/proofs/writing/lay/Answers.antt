@@ -3,7 +3,6 @@ use mathlib.Core.Path.{sym}
 use native.Mathlib.Omega.{arith}
 use lib.ListN.{length-take}
 use lib.Seq.{length-take-le}
-use borrow.Author.Rules.{rules}
 use Rattle.securing.proofs.SecuringLaws.{auxiliary-size, laid}
 use Rattle.securing.proofs.writing.lay.Goals as goal
 
