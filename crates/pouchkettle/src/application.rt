@@ -17,8 +17,7 @@ pub struct ToldAps {
 }
 
 // Opens a frame in place.
-#[unsafe(no_mangle)]
-pub extern "C" fn pouchkettle_open_aps(aps: Aps, pairs: Pairs, frame: &mut [u8]) -> ToldAps
+pub fn pouchkettle_open_aps(aps: Aps, pairs: Pairs, frame: &mut [u8]) -> ToldAps
     ensures { (result.told ≡ told (open_aps aps pairs frame.old).answer)
         × (result.pairs ≡ (open_aps aps pairs frame.old).pairs)
         × (frame.new ≡ (open_aps aps pairs frame.old).frame) }
@@ -33,8 +32,7 @@ pub extern "C" fn pouchkettle_open_aps(aps: Aps, pairs: Pairs, frame: &mut [u8])
 }
 
 // Secures the plain frame for a device into `out`; what stands there past the finished frame stays.
-#[unsafe(no_mangle)]
-pub extern "C" fn pouchkettle_secure_aps(
+pub fn pouchkettle_secure_aps(
     aps: Aps,
     pairs: Pairs,
     device: u64,

@@ -23,24 +23,21 @@ pub struct ToldDigest {
 }
 
 // The start.
-#[unsafe(no_mangle)]
-pub extern "C" fn pouchkettle_hash_start() -> Hashing
+pub fn pouchkettle_hash_start() -> Hashing
     ensures { result ≡ started zero_block }
 {
     mmo::hash_start()
 }
 
 // The start from an initial block, cut or filled with zeros to 16 bytes.
-#[unsafe(no_mangle)]
-pub extern "C" fn pouchkettle_hash_start_from(initial: &[u8]) -> Hashing
+pub fn pouchkettle_hash_start_from(initial: &[u8]) -> Hashing
     ensures { result ≡ started (filled initial.now) }
 {
     mmo::hash_start_from(initial)
 }
 
 // A part more. Past 536,870,911 bytes in all the number is 7 and the state as it was.
-#[unsafe(no_mangle)]
-pub extern "C" fn pouchkettle_hash_add(state: Hashing, part: &[u8]) -> ToldHashing
+pub fn pouchkettle_hash_add(state: Hashing, part: &[u8]) -> ToldHashing
     ensures { (result.number ≡ outcome_number (hashing (state.total + length part.now)))
         × (result.state ≡ after_adding state part.now) }
 {
@@ -54,8 +51,7 @@ pub extern "C" fn pouchkettle_hash_add(state: Hashing, part: &[u8]) -> ToldHashi
 }
 
 // The value; 7 and zeros for a total past the limit, which no call makes.
-#[unsafe(no_mangle)]
-pub extern "C" fn pouchkettle_hash_finish(state: Hashing) -> ToldDigest
+pub fn pouchkettle_hash_finish(state: Hashing) -> ToldDigest
     ensures { (result.number ≡ outcome_number (hashing state.total))
         × (result.value ≡ when_done (hashing state.total) (finished state) zero_block) }
 {

@@ -1,5 +1,5 @@
-// What a gateway in Rust or C links (`rt staticlib pouchkettle`): opening, securing and the hash of firmware under exported names. Answers are numbers, which
-// docs/AUDIT.md lists. A slice goes as pointer and length; every struct is laid out as C does.
+// What a gateway in Rust or C calls: opening, securing and the hash of firmware. `pouchkettle_c` exports these functions under the same
+// names. Answers are numbers, which docs/AUDIT.md lists.
 #![tactic(auto)]
 
 mod application;

@@ -34,8 +34,7 @@ fn told_nwk(opened: OpenedNwk) -> ToldNwk
 }
 
 // Opens a frame in place. The first `used` counter rows are in use.
-#[unsafe(no_mangle)]
-pub extern "C" fn pouchkettle_open_nwk(
+pub fn pouchkettle_open_nwk(
     nwk: Nwk,
     rows: &mut [CounterRow],
     used: usize,
@@ -49,8 +48,7 @@ pub extern "C" fn pouchkettle_open_nwk(
 }
 
 // Secures the plain frame into `out`; what stands there past the finished frame stays.
-#[unsafe(no_mangle)]
-pub extern "C" fn pouchkettle_secure_nwk(
+pub fn pouchkettle_secure_nwk(
     nwk: Nwk,
     outgoing: &mut Outgoing,
     plain: &[u8],
@@ -83,8 +81,7 @@ fn told_rows(recorded: Recorded) -> ToldRows
 }
 
 // Forgets what was heard under a key number: for a key that goes.
-#[unsafe(no_mangle)]
-pub extern "C" fn pouchkettle_forget(rows: &mut [CounterRow], used: usize, number: u8) -> ToldRows
+pub fn pouchkettle_forget(rows: &mut [CounterRow], used: usize, number: u8) -> ToldRows
     ensures { (result ≡ told_rows (forgotten rows.old used number))
         × (rows.new ≡ (forgotten rows.old used number).rows) }
 {
@@ -92,8 +89,7 @@ pub extern "C" fn pouchkettle_forget(rows: &mut [CounterRow], used: usize, numbe
 }
 
 // The outgoing counter after a change of key.
-#[unsafe(no_mangle)]
-pub extern "C" fn pouchkettle_reset(outgoing: Outgoing) -> Outgoing
+pub fn pouchkettle_reset(outgoing: Outgoing) -> Outgoing
     ensures { result ≡ restarted outgoing }
 {
     nib::reset(outgoing)

@@ -1,5 +1,5 @@
 -- What each field leaves, on plain lists and records. Assumes nothing.
-use Rattle.std.proofs.Common.{◌≡◌, ℕ, ◌+◌, ◌-◌, ◌<◌, ◌≤◌, Bool, true, false, cond, ltb, leb, List, length, get_or, take, drop, set, sym, refl, ap, ◌∙◌, arith, length-drop, take_all, le-ltb, lt-ltb, eq-eqb}
+use Rattle.std.proofs.Common.{◌≡◌, ℕ, ◌+◌, ◌-◌, ◌<◌, ◌≤◌, Bool, true, false, cond, ltb, List, length, get_or, take, drop, set, sym, refl, ap, ◌∙◌, arith, length-drop, take_all, le-ltb, lt-ltb, eq-eqb}
 use borrow.Author.Tests.{lt-leb}
 use Rattle.laws.specs.Numbers.{field}
 use Rattle.answer.specs.declared.Answer.TheVariants.{Refused}

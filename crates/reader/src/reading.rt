@@ -61,6 +61,7 @@ pub struct Step {
 }
 
 // Level 5, active 0 and empty tables.
+#[tactic(auto, unfolding(crate::specs::Reading::started))]
 pub fn start() -> Reader
     ensures { result ≡ started }
 {
@@ -106,6 +107,7 @@ fn quiet(reader: Reader) -> Step
 }
 
 // 0x01: number, key.
+#[tactic(auto, unfolding(crate::specs::Reading::key_field))]
 fn key_field(reader: Reader, body: &[u8]) -> Step
     ensures { result ≡ key_field reader body.now }
 {
@@ -130,6 +132,7 @@ fn key_field(reader: Reader, body: &[u8]) -> Step
 }
 
 // 0x02: number, sender, counter.
+#[tactic(auto, unfolding(crate::specs::Reading::counter_field))]
 fn counter_field(reader: Reader, body: &[u8]) -> Step
     ensures { result ≡ counter_field reader body.now }
 {
@@ -155,6 +158,7 @@ fn counter_field(reader: Reader, body: &[u8]) -> Step
 }
 
 // 0x03: the active number.
+#[tactic(auto, unfolding(crate::specs::Reading::active_field))]
 fn active_field(reader: Reader, body: &[u8]) -> Step
     ensures { result ≡ active_field reader body.now }
 {
@@ -221,6 +225,7 @@ fn frame_field(reader: Reader, body: &[u8]) -> Step
     }
 }
 
+#[tactic(auto, unfolding(crate::specs::Reading::acted))]
 fn acted(reader: Reader, tag: u8, body: &[u8]) -> Step
     ensures { result ≡ acted reader tag body.now }
 {
@@ -245,6 +250,7 @@ fn past(step: Step, to: usize) -> Step
 }
 
 // One field of the input s, from where the reader stands.
+#[tactic(auto, unfolding(crate::specs::Reading::stepped))]
 pub fn next(reader: Reader, s: &[u8]) -> Step
     ensures { result ≡ stepped reader s.now }
 {

@@ -1,0 +1,42 @@
+// The hash of a firmware file, taken as it comes. What goes from call to call is the gateway's, by value.
+ghost use Rattle.std.specs.Prelude.{◌≡◌, ◌+◌, length};
+ghost use Rattle.answer.specs.Numbers.{outcome_number, when_done};
+ghost use Rattle.mmo.specs.Hash.{zero_block, filled};
+ghost use Rattle.mmo.specs.Stream.{hashing, started, finished, after_adding};
+
+use mmo::Hashing;
+use pouchkettle::{ToldDigest, ToldHashing};
+
+// The start.
+#[unsafe(no_mangle)]
+pub extern "C" fn pouchkettle_hash_start() -> Hashing
+    ensures { result ≡ started zero_block }
+{
+    pouchkettle::pouchkettle_hash_start()
+}
+
+// The start from an initial block, cut or filled with zeros to 16 bytes.
+#[unsafe(no_mangle)]
+pub extern "C" fn pouchkettle_hash_start_from(initial: &[u8]) -> Hashing
+    ensures { result ≡ started (filled initial.now) }
+{
+    pouchkettle::pouchkettle_hash_start_from(initial)
+}
+
+// A part more. Past 536,870,911 bytes in all the number is 7 and the state as it was.
+#[unsafe(no_mangle)]
+pub extern "C" fn pouchkettle_hash_add(state: Hashing, part: &[u8]) -> ToldHashing
+    ensures { (result.number ≡ outcome_number (hashing (state.total + length part.now)))
+        × (result.state ≡ after_adding state part.now) }
+{
+    pouchkettle::pouchkettle_hash_add(state, part)
+}
+
+// The value; 7 and zeros for a total past the limit, which no call makes.
+#[unsafe(no_mangle)]
+pub extern "C" fn pouchkettle_hash_finish(state: Hashing) -> ToldDigest
+    ensures { (result.number ≡ outcome_number (hashing state.total))
+        × (result.value ≡ when_done (hashing state.total) (finished state) zero_block) }
+{
+    pouchkettle::pouchkettle_hash_finish(state)
+}

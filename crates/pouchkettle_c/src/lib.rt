@@ -1,0 +1,8 @@
+// The static library that a gateway in Rust or C links, libpouchkettle.a: the functions of `pouchkettle`, exported under the same names.
+// Each states the clauses of its function word for word, and only calls it. Answers are numbers, which docs/AUDIT.md lists. A slice goes
+// as pointer and length; every struct is laid out as C does.
+#![tactic(auto)]
+
+mod application;
+mod firmware;
+mod network;
