@@ -43,6 +43,8 @@ use Rattle.octets.specs.contracts.xor_into as octets-xor-into'
 use Rattle.octets.proofs.xor_into.Reads as octets-xor-into-reads
 use Rattle.octets.specs.contracts.same as octets-same'
 use Rattle.octets.proofs.same.Reads as octets-same-reads
+use Rattle.octets.specs.contracts.copy as octets-copy'
+use Rattle.octets.proofs.copy.Reads as octets-copy-reads
 use Rattle.words.specs.contracts.joined as words-joined'
 use Rattle.words.proofs.joined.Reads as words-joined-reads
 use Rattle.words.specs.contracts.xored as words-xored'
@@ -296,6 +298,10 @@ octets-xor-into κs a z z' ws ws' p q = (refl, λ i. ((p ∙ sym q) i, (tt, tt))
 pub octets-same : Decides octets-same'.ended octets-same-reads.Post
 unfolding Decides
 octets-same κs a z z' ws ws' p q = (p ∙ sym q, refl)
+
+pub octets-copy : Decides octets-copy'.ended octets-copy-reads.Post
+unfolding Decides
+octets-copy κs a z z' ws ws' p q = (refl, λ i. (tt, ((p ∙ sym q) i, tt)))
 
 -- ---- words
 
@@ -557,7 +563,7 @@ nib-closing κs a z z' ws ws' p q = (p ∙ sym q, refl)
 abbrev counter-record-take-promise : Promise counter-record-take'.ended
 counter-record-take-promise κs a z e = took z e.0.now ≡ taken a.0.now
 
-pub counter-record-take-says : Says counter-record-take'.ended counter-record-take-promise (λ M. counter-record-take'.clauses {M = M})
+pub counter-record-take-says : Says counter-record-take'.ended counter-record-take-promise (λ M 𝓤. counter-record-take'.clauses {M = M} {𝓤 = 𝓤})
 unfolding Says
 counter-record-take-says M 𝓤 𝓛 mem run κs a g z e = refl
 
@@ -570,7 +576,7 @@ counter-record-take κs a z z' ws ws' p q = let w = sending.one (taken a.0.now) 
 abbrev counter-rows-held-promise : Promise counter-rows-held'.ended
 counter-rows-held-promise κs a z e = z ≡ held_for a.0.now a.1.0 (pair a.1.1.0 a.1.1.1.0)
 
-pub counter-rows-held-says : Says counter-rows-held'.ended counter-rows-held-promise (λ M. counter-rows-held'.clauses {M = M})
+pub counter-rows-held-says : Says counter-rows-held'.ended counter-rows-held-promise (λ M 𝓤. counter-rows-held'.clauses {M = M} {𝓤 = 𝓤})
 unfolding Says
 counter-rows-held-says M 𝓤 𝓛 mem run κs a g z e = refl
 
@@ -581,7 +587,7 @@ counter-rows-held κs a z z' ws ws' p q = (p ∙ sym q, refl)
 abbrev counter-rows-settle-promise : Promise counter-rows-settle'.ended
 counter-rows-settle-promise κs a z e = left z e.0.now ≡ settled a.0.now a.1.0 a.1.1.0
 
-pub counter-rows-settle-says : Says counter-rows-settle'.ended counter-rows-settle-promise (λ M. counter-rows-settle'.clauses {M = M})
+pub counter-rows-settle-says : Says counter-rows-settle'.ended counter-rows-settle-promise (λ M 𝓤. counter-rows-settle'.clauses {M = M} {𝓤 = 𝓤})
 unfolding Says
 counter-rows-settle-says M 𝓤 𝓛 mem run κs a g z e = refl
 
@@ -592,7 +598,7 @@ counter-rows-settle κs a z z' ws ws' p q = let w = counters.one _ z z' _ _ p q 
 abbrev counter-rows-forget-promise : Promise counter-rows-forget'.ended
 counter-rows-forget-promise κs a z e = left z e.0.now ≡ forgotten a.0.now a.1.0 a.1.1.0
 
-pub counter-rows-forget-says : Says counter-rows-forget'.ended counter-rows-forget-promise (λ M. counter-rows-forget'.clauses {M = M})
+pub counter-rows-forget-says : Says counter-rows-forget'.ended counter-rows-forget-promise (λ M 𝓤. counter-rows-forget'.clauses {M = M} {𝓤 = 𝓤})
 unfolding Says
 counter-rows-forget-says M 𝓤 𝓛 mem run κs a g z e = refl
 
@@ -691,7 +697,7 @@ securing-finish κs a z z' ws ws' p q = (refl, λ i. (tt, (tt, (tt, ((p ∙ sym 
 abbrev pub nwk-open-nwk-promise : Promise nwk-open-nwk'.ended
 nwk-open-nwk-promise κs a z e = opened z e.1.0.now e.1.1.1.0.now ≡ open_nwk a.0 a.1.0.now a.1.1.0 a.1.1.1.0.now
 
-pub nwk-open-nwk-says : Says nwk-open-nwk'.ended nwk-open-nwk-promise (λ M. nwk-open-nwk'.clauses {M = M})
+pub nwk-open-nwk-says : Says nwk-open-nwk'.ended nwk-open-nwk-promise (λ M 𝓤. nwk-open-nwk'.clauses {M = M} {𝓤 = 𝓤})
 unfolding Says
 nwk-open-nwk-says M 𝓤 𝓛 mem run κs a g z e = refl
 
@@ -702,7 +708,7 @@ nwk-open-nwk κs a z z' ws ws' p q = let same = p ∙ sym q in (λ i. record { a
 abbrev nwk-secure-nwk-promise : Promise nwk-secure-nwk'.ended
 nwk-secure-nwk-promise κs a z e = secured z e.1.1.1.0.now e.1.0.now ≡ secure_nwk a.0 a.1.0.now a.1.1.0.now a.1.1.1.0.now
 
-pub nwk-secure-nwk-says : Says nwk-secure-nwk'.ended nwk-secure-nwk-promise (λ M. nwk-secure-nwk'.clauses {M = M})
+pub nwk-secure-nwk-says : Says nwk-secure-nwk'.ended nwk-secure-nwk-promise (λ M 𝓤. nwk-secure-nwk'.clauses {M = M} {𝓤 = 𝓤})
 unfolding Says
 nwk-secure-nwk-says M 𝓤 𝓛 mem run κs a g z e = refl
 
@@ -737,7 +743,7 @@ pouchkettle-open-nwk-promise κs a z e =
     let o = open_nwk a.0 a.1.0.now a.1.1.0 a.1.1.1.0.now in
     (z ≡ told_nwk o) × (e.1.0.now ≡ o.rows) × (e.1.1.1.0.now ≡ o.frame)
 
-pub pouchkettle-open-nwk-says : Says pouchkettle-open-nwk'.ended pouchkettle-open-nwk-promise (λ M. pouchkettle-open-nwk'.clauses {M = M})
+pub pouchkettle-open-nwk-says : Says pouchkettle-open-nwk'.ended pouchkettle-open-nwk-promise (λ M 𝓤. pouchkettle-open-nwk'.clauses {M = M} {𝓤 = 𝓤})
 unfolding Says
 pouchkettle-open-nwk-says M 𝓤 𝓛 mem run κs a g z e = refl
 
@@ -750,7 +756,7 @@ pouchkettle-secure-nwk-promise κs a z e =
     let s = secure_nwk a.0 a.1.0.now a.1.1.0.now a.1.1.1.0.now in
     (z ≡ told s.answer) × (e.1.0.now ≡ s.outgoing) × (e.1.1.1.0.now ≡ s.out)
 
-pub pouchkettle-secure-nwk-says : Says pouchkettle-secure-nwk'.ended pouchkettle-secure-nwk-promise (λ M. pouchkettle-secure-nwk'.clauses {M = M})
+pub pouchkettle-secure-nwk-says : Says pouchkettle-secure-nwk'.ended pouchkettle-secure-nwk-promise (λ M 𝓤. pouchkettle-secure-nwk'.clauses {M = M} {𝓤 = 𝓤})
 unfolding Says
 pouchkettle-secure-nwk-says M 𝓤 𝓛 mem run κs a g z e = refl
 
@@ -763,7 +769,7 @@ pouchkettle-forget-promise κs a z e =
     let f = forgotten a.0.now a.1.0 a.1.1.0 in
     (z ≡ told_rows f) × (e.0.now ≡ f.rows)
 
-pub pouchkettle-forget-says : Says pouchkettle-forget'.ended pouchkettle-forget-promise (λ M. pouchkettle-forget'.clauses {M = M})
+pub pouchkettle-forget-says : Says pouchkettle-forget'.ended pouchkettle-forget-promise (λ M 𝓤. pouchkettle-forget'.clauses {M = M} {𝓤 = 𝓤})
 unfolding Says
 pouchkettle-forget-says M 𝓤 𝓛 mem run κs a g z e = refl
 
