@@ -50,7 +50,7 @@ call-of g b =
     let o = open_aps g.aps g.pairs b in
     record {
       lifetimes = ([], tt);
-      arguments = (g.aps, (g.pairs, (record { ref_ptr = (0, 0); now = b }, tt)));
+      arguments = (g.aps, (g.pairs, (record { ref_ptr = (0, 0); ghost_name = 0; now = b }, tt)));
       result = record { answer = o.answer; pairs = o.pairs };
       last = (tt, (tt, (o.frame, tt)));
       aps = refl;

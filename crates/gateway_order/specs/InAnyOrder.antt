@@ -58,7 +58,7 @@ call-of g b =
     let o = open_nwk g.nwk g.rows g.used b in
     record {
       lifetimes = ([], ([], tt));
-      arguments = (g.nwk, (record { ref_ptr = (0, 0); now = g.rows }, (g.used, (record { ref_ptr = (0, 0); ghost_name = 1; now = b }, tt))));
+      arguments = (g.nwk, (record { ref_ptr = (0, 0); ghost_name = 0; now = g.rows }, (g.used, (record { ref_ptr = (0, 0); ghost_name = 1; now = b }, tt))));
       result = record { answer = o.answer; used = o.used; active = o.active };
       last = (tt, (o.rows, (tt, (o.frame, tt))));
       nwk = refl;

@@ -12,7 +12,6 @@ use lib.Seq.{length-take-le, take_at}
 use borrow.Author.Tests.{le-ltb, ne_eqb, not-true}
 use Rattle.laws.specs.Numbers.{bit}
 use Rattle.answer.specs.declared.Answer.TheVariants.{Done}
-use Rattle.answer.specs.declared.Refusal.{Refusal}
 use Rattle.answer.specs.declared.Refusal.TheVariants.{TableFull}
 use Rattle.cells.specs.Rows.{become, find, put, room, settle}
 use Rattle.control.specs.Control.{sent, has_sender, has_number, identifier_of}
@@ -22,7 +21,6 @@ use Rattle.auxiliary_header.specs.declared.auxiliary.Sender.TheVariants.{Address
 use Rattle.auxiliary_header.specs.declared.auxiliary.KeyUsed.TheVariants as used
 use Rattle.auxiliary_header.specs.Auxiliary.{auxiliary_octets, auxiliary_at}
 use Rattle.auxiliary_header.proofs.AuxiliaryLaws.{read_back}
-use Rattle.frame_header.specs.declared.network.NwkRead.{NwkRead}
 use Rattle.frame_header.specs.declared.network.NwkRead.TheVariants as nwk
 use Rattle.frame_header.specs.Nwk.{nwk_control, nwk_kind, nwk_length, nwk_of}
 use Rattle.frame_header.specs.NwkLaws.{nwk-whole, same-control, same_length}

@@ -1,7 +1,6 @@
 -- `cases::front` meets its contract. Assumes nothing.
 use native.Mathlib.Omega.{arith}
 use lib.ListN.{length-take}
-use borrow.Author.Rules.{rules}
 use Rattle.cases.proofs.front.Goals as goal
 
 pub slice_bounds-result-end : goal.slice_bounds-result-end

@@ -1,6 +1,5 @@
 -- `ccm_bench::open_once_expanded` meets its contract. Assumes nothing.
 use Prim.Native.Nat.{◌-◌, ◌≤◌}
-use borrow.Author.Rules.{rules}
 use Rattle.ccm_bench.proofs.open_once_expanded.Given as goal
 
 abbrev pub invariant-loop-i : goal.invariant-loop-i

@@ -1,7 +1,6 @@
 -- `firmware_hash::print_value` ends, within the value. Assumes nothing.
 use Prim.Native.Nat.{◌-◌, ◌≤◌}
 use lib.ListN.{length}
-use borrow.Author.Rules.{rules}
 use Rattle.firmware_hash.proofs.print_value.Given as goal
 
 abbrev pub invariant-loop-i : goal.invariant-loop-i

@@ -1,7 +1,6 @@
 -- `replay::main` meets its contract. Assumes nothing.
 use mathlib.Core.Path.{◌≡◌}
 use lib.ListN.{length}
-use borrow.Author.Rules.{rules}
 use Rattle.replay.proofs.main.Given as goal
 
 abbrev pub invariant-loop-left : goal.invariant-loop-left

@@ -1,7 +1,6 @@
 -- `vectors::print_bytes` meets its contract. Assumes nothing.
 use Prim.Native.Nat.{◌-◌, ◌≤◌}
 use lib.ListN.{length}
-use borrow.Author.Rules.{rules}
 use Rattle.vectors.proofs.print_bytes.Given as goal
 
 abbrev pub invariant-loop-i : goal.invariant-loop-i

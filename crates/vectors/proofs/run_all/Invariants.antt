@@ -1,7 +1,6 @@
 -- `vectors::run_all` meets its contract. Assumes nothing.
 use Prim.Native.Nat.{◌-◌, ◌≤◌}
 use lib.ListN.{length}
-use borrow.Author.Rules.{rules}
 use Rattle.vectors.proofs.run_all.Given as goal
 
 abbrev pub invariant-loop-at : goal.invariant-loop-at

@@ -1,6 +1,5 @@
 -- `replay::gateway::rows_of` meets its contract. Assumes nothing.
 use Prim.Native.Nat.{◌-◌, ◌≤◌}
-use borrow.Author.Rules.{rules}
 use Rattle.replay.proofs.gateway.rows_of.Given as goal
 
 abbrev pub invariant-loop-i : goal.invariant-loop-i

@@ -1,6 +1,5 @@
 -- `replay::gateway::tell_rows` meets its contract. Assumes nothing.
 use Prim.Native.Nat.{◌-◌, ◌≤◌}
-use borrow.Author.Rules.{rules}
 use Rattle.replay.proofs.gateway.tell_rows.Given as goal
 
 abbrev pub invariant-loop-i : goal.invariant-loop-i

@@ -1,7 +1,6 @@
 -- `replay::telling::octets` meets its contract. Assumes nothing.
 use Prim.Native.Nat.{◌-◌, ◌≤◌}
 use lib.ListN.{length}
-use borrow.Author.Rules.{rules}
 use Rattle.replay.proofs.telling.octets.Given as goal
 
 abbrev pub invariant-loop-at : goal.invariant-loop-at
