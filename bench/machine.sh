@@ -48,21 +48,16 @@ x86_64)
 esac
 need "$compiler" 'a C compiler for x86-64'
 
-# Has a program proved; where it runs under an emulator, `loader` starts it as rt does.
+# Has a program proved and built: crates/CRATE/out/CRATE.
 prove() { # CRATE
     echo "$script: proving the program first where it has changed; that can take some minutes" >&2
-    (cd "$top" && rt check "$1" >"$work/log" 2>&1) || { tail -n 5 "$work/log" >&2; exit 1; }
-    loader=
-    if [ "$native" = 0 ]; then
-        tools=$(dirname "$(dirname "$(readlink -f "$(command -v rt)")")")/on/$(uname -m)/toolchain
-        loader="$tools/lib/ld-linux-x86-64.so.2 --library-path $tools/lib"
-    fi
+    (cd "$top/crates/$1" && rt run </dev/null >"$work/log" 2>&1) || { tail -n 5 "$work/log" >&2; exit 1; }
 }
 
 # libpouchkettle.a, proved
 library() {
     echo "$script: proving the library first where it has changed; that can take some minutes" >&2
-    (cd "$top" && rt staticlib pouchkettle >"$work/log" 2>&1) || { tail -n 5 "$work/log" >&2; exit 1; }
+    "$top/gateway/archive" >"$work/log" 2>&1 || { tail -n 5 "$work/log" >&2; exit 1; }
     archive=$top/target/staticlib/libpouchkettle.a
 }
 

@@ -1,8 +1,6 @@
 """The form of cases and lines (compare/README.md), and the two programs that read the one and write the other."""
 import collections
-import os
 import pathlib
-import platform
 import shutil
 import struct
 import subprocess
@@ -63,18 +61,15 @@ def stop(words):
 
 
 def program(name='replay'):
-    """The command that runs a program of crates/: by itself on x86-64, elsewhere under the kit's emulator, as rt runs it."""
-    rt = shutil.which('rt')
-    path = TOP / 'target/bin' / name
-    if rt is None:
+    """The command that runs a program of crates/, proved and built where it has changed."""
+    if shutil.which('rt') is None:
         stop('rt, of the Rattle kit, is not on PATH')
-    done = subprocess.run(['rt', 'check', name], cwd=TOP, stdout=subprocess.PIPE, stderr=subprocess.STDOUT, text=True)
-    if not path.exists():
-        stop('rt check %s built no program:\n%s' % (name, done.stdout[-600:]))
-    if platform.machine() == 'x86_64':
-        return [str(path)]
-    tools = pathlib.Path(os.path.realpath(rt)).parent.parent / 'on' / platform.machine() / 'toolchain'
-    return [str(tools / 'bin/qemu-x86_64'), str(tools / 'lib/ld-linux-x86-64.so.2'), '--library-path', str(tools / 'lib'), str(path)]
+    folder = TOP / 'crates' / name
+    done = subprocess.run(['rt', 'run'], cwd=folder, stdin=subprocess.DEVNULL, stdout=subprocess.PIPE, stderr=subprocess.STDOUT, text=True)
+    path = folder / 'out' / name
+    if done.returncode or not path.exists():
+        stop('rt run in crates/%s built no program:\n%s' % (name, done.stdout[-600:]))
+    return [str(path)]
 
 
 def rust(checkout):

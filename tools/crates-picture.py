@@ -22,7 +22,7 @@ def read_crates():
         line = line.split("#")[0].strip()
         if line:
             name, rest = line.split(":")
-            crates[name.strip()] = [d for d in rest.split() if d not in KIT]
+            crates[name.split()[0]] = [d for d in rest.split() if d not in KIT]
     return crates
 
 
