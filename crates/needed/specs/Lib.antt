@@ -1,6 +1,3 @@
 -- In reading order.
 pub mod TwoFrames
 pub mod OnAir
-pub mod Desks
-pub mod Needed
-pub mod Inhabited

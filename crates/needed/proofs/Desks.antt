@@ -17,7 +17,8 @@ use Rattle.nib.specs.Pairs.{Pair}
 use Rattle.judging.specs.OpenNwk.{nwk_placed, open_nwk}
 use Rattle.order.specs.Nwk.{NwkDesk, names, opened}
 use Rattle.needed.specs.TwoFrames.{forth, back, saying, turned}
-use Rattle.needed.specs.OnAir.{key, sender, under_two, under_three, Has, two-claims, three-claims, two-opens, three-opens, two-again}
+use Rattle.needed.specs.OnAir.{key, sender, under_two, under_three, Has}
+use Rattle.needed.proofs.OnAirLaws.{two-claims, three-claims, two-opens, three-opens, two-again}
 
 -- ---- a gateway with the keys 2 and 3 and so many free rows, and frames in the buffers 0 and 1
 

@@ -22,8 +22,9 @@ use Rattle.order.specs.Stale.{Stale}
 use Rattle.order.specs.Aps as aps
 use Rattle.order.specs.ApsSteps as aps-steps
 use Rattle.needed.specs.TwoFrames.{forth, back}
-use Rattle.needed_aps.specs.OnAir.{one, from_one, claim_from, one-claims, other-claims, one-opens}
-use Rattle.needed_aps.specs.Desks as aps-desks
+use Rattle.needed_aps.specs.OnAir.{one, from_one, claim_from}
+use Rattle.needed_aps.proofs.OnAirLaws.{one-claims, other-claims, one-opens}
+use Rattle.needed_aps.proofs.Desks as aps-desks
 
 -- ---- P6
 

@@ -13,7 +13,8 @@ use Rattle.aib.specs.Pairs.{new_row}
 use Rattle.aps.specs.OpenAps.{aps_placed, open_aps}
 use Rattle.order.specs.Aps.{ApsDesk, names, opened}
 use Rattle.needed.specs.TwoFrames.{forth, back, saying, turned}
-use Rattle.needed_aps.specs.OnAir.{one, other, from_one, from_other, one-claims, other-claims, one-opens, other-opens, one_again}
+use Rattle.needed_aps.specs.OnAir.{one, other, from_one, from_other}
+use Rattle.needed_aps.proofs.OnAirLaws.{one-claims, other-claims, one-opens, other-opens, one_again}
 
 -- ---- a gateway with so many rows in use, of other devices, and frames in the buffers 0 and 1
 

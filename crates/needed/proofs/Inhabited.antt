@@ -27,8 +27,9 @@ use Rattle.order.specs.Stale.{Stale}
 use Rattle.order.specs.Nwk as nwk
 use Rattle.order.specs.NwkSteps as nwk-steps
 use Rattle.needed.specs.TwoFrames.{forth, back}
-use Rattle.needed.specs.OnAir.{sender, claim_under, under_zero, under_two, under_nine, zero-vouches, nine-vouches, claims-under, opens-under, two-claims, three-claims, two-opens}
-use Rattle.needed.specs.Desks as nwk-desks
+use Rattle.needed.specs.OnAir.{sender, claim_under, under_zero, under_two, under_nine}
+use Rattle.needed.proofs.OnAirLaws.{zero-vouches, nine-vouches, claims-under, opens-under, two-claims, three-claims, two-opens}
+use Rattle.needed.proofs.Desks as nwk-desks
 
 -- ---- states
 

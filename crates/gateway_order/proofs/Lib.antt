@@ -1,0 +1,2 @@
+pub mod InAnyOrder
+pub mod ApsInAnyOrder

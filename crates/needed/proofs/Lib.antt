@@ -1,0 +1,4 @@
+pub mod OnAirLaws
+pub mod Desks
+pub mod Needed
+pub mod Inhabited

@@ -1,0 +1,5 @@
+pub mod OnAirLaws
+pub mod Desks
+pub mod Needed
+pub mod Reuse
+pub mod Inhabited
