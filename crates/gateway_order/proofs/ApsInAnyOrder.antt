@@ -6,7 +6,7 @@ use Rattle.answer.specs.Numbers.{told}
 use Rattle.cells.specs.Desk.{write, open_at, open_all}
 use Rattle.cells.specs.Reorder.{Reordered}
 use Rattle.aps.specs.OpenAps.{open_aps}
-use Rattle.order.specs.AnyOrder.{aps-in-any-order}
+use Rattle.order.proofs.AnyOrder.{aps-in-any-order}
 use Rattle.order.specs.Frames.{leaves, says}
 use Rattle.order.specs.Aps as aps
 use Rattle.gateway_order.specs.ApsCalls.{Call, called, Calls, none, then}

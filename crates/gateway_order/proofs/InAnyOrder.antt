@@ -9,7 +9,7 @@ use Rattle.cells.specs.Reorder.{Reordered}
 use Rattle.nib.specs.Counters.{capacity}
 use Rattle.nwk.specs.Leaves.{opened}
 use Rattle.judging.specs.OpenNwk.{open_nwk}
-use Rattle.order.specs.AnyOrder.{nwk-in-any-order}
+use Rattle.order.proofs.AnyOrder.{nwk-in-any-order}
 use Rattle.order.specs.Frames.{leaves, says}
 use Rattle.order.specs.Nwk as nwk
 use Rattle.gateway_order.specs.Calls.{Call, called, Calls, none, then}

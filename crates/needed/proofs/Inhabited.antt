@@ -20,9 +20,9 @@ use Rattle.claims.specs.Claims.{nwk_who}
 use Rattle.nib.specs.declared.state.Nwk.{Nwk}
 use Rattle.judging.specs.OpenNwk.{nwk_placed, open_nwk}
 use Rattle.nwk.proofs.RoundNwk as RoundNwk
-use Rattle.order.specs.AnyOrder.{nwk-in-any-order}
+use Rattle.order.proofs.AnyOrder.{nwk-in-any-order}
 use Rattle.order.specs.Cases.{NwkHeard, NwkOpens, NwkSends}
-use Rattle.order.specs.NotAgain.{nwk-not-again}
+use Rattle.order.proofs.NotAgain.{nwk-not-again}
 use Rattle.order.specs.Stale.{Stale}
 use Rattle.order.specs.Nwk as nwk
 use Rattle.order.specs.NwkSteps as nwk-steps

@@ -15,9 +15,9 @@ use Rattle.aib.specs.Pairs.{PairCell, new_pair, new_row, trust_center_link_key}
 use Rattle.claims.specs.Claims.{aps_who}
 use Rattle.aps.specs.OpenAps.{incoming, aps_placed, open_aps}
 use Rattle.aps.proofs.RoundAps as RoundAps
-use Rattle.order.specs.AnyOrder.{aps-in-any-order}
+use Rattle.order.proofs.AnyOrder.{aps-in-any-order}
 use Rattle.order.specs.Cases.{ApsHeard}
-use Rattle.order.specs.NotAgain.{aps-not-again}
+use Rattle.order.proofs.NotAgain.{aps-not-again}
 use Rattle.order.specs.Stale.{Stale}
 use Rattle.order.specs.Aps as aps
 use Rattle.order.specs.ApsSteps as aps-steps

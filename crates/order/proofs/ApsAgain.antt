@@ -28,8 +28,10 @@ use Rattle.order.specs.Aps.{Gateway, held_pair, answer, after}
 use Rattle.order.specs.ApsSent as sends
 use Rattle.order.specs.ApsRows.{raising-incoming, raising-length}
 use Rattle.order.specs.ApsSteps.{Step, opening, securing, advancing, after_step}
-use Rattle.order.specs.ApsOrder.{reaction, Good, taken-good, stays-good, machine}
-use Rattle.order.specs.ApsOrder as taken
+use Rattle.order.specs.ApsOrder.{reaction, Good}
+use Rattle.order.proofs.ApsPlaced.{taken-good, stays-good}
+use Rattle.order.proofs.ApsOrder.{machine}
+use Rattle.order.proofs.ApsPlaced as taken
 
 heard-counter : (held : Option PairCell) (n : ℕ) → (heard held n).incoming ≡ n
 heard-counter none n = refl

@@ -2,14 +2,14 @@
 -- first opens the frames in the buffers p, one after another; the second the same frames in the order q. They end alike (`Alike`, in
 -- Nwk.antt and Aps.antt). What `Reordered` says stands word by word in `cells`, specs/Reorder.antt. Every hypothesis of `nwk-in-any-order` and of
 -- `aps-in-any-order` is needed: the crates `needed` and `needed_aps` refute each theorem without it. Assumes nothing.
-use Rattle.std.specs.Prelude.{◌≡◌, ℕ, ◌+◌, ◌≤◌, length}
+use Rattle.std.specs.Prelude.{ℕ, ◌+◌, ◌≤◌, length}
 use mathlib.Core.List.{List, Memᴰ as Mem}
 use Rattle.cells.specs.Reorder.{Reordered}
 use Rattle.nib.specs.Counters.{capacity}
 use Rattle.order.specs.Nwk as Nwk
 use Rattle.order.specs.Aps as Aps
-use Rattle.order.specs.NwkOrder.{nwk-alike}
-use Rattle.order.specs.ApsOrder.{aps-alike}
+use Rattle.order.proofs.NwkOrder.{nwk-alike}
+use Rattle.order.proofs.ApsOrder.{aps-alike}
 
 pub nwk-in-any-order : (d : Nwk.NwkDesk) (p q : List ℕ)
     -- the active number that of one of the network keys,
@@ -31,14 +31,3 @@ pub aps-in-any-order : (d : Aps.ApsDesk) (p q : List ℕ)
     -- every frame gets the same answer, start and length and ends as the same octets, every device has the same pair row
     → Aps.Alike (Aps.opened d p) (Aps.opened d q)
 aps-in-any-order = aps-alike
-
--- As it was asked for: at level 5, and for NWK with at most two network keys. What it asks for more is not used: a state of another level, or with
--- more keys, answers every frame 7 and stays as it is, in any order.
-pub nwk-as-asked : (d : Nwk.NwkDesk) (p q : List ℕ) → d.state.nwk.level ≡ 5 → d.state.nwk.keys.used ≤ 2
-    → Mem d.state.nwk.active (Nwk.numbers d.state.nwk.keys) → d.state.used + length (Nwk.new_pairs d p) ≤ capacity (length d.state.rows) → Reordered (Nwk.names d) p q
-    → Nwk.Alike (Nwk.opened d p) (Nwk.opened d q)
-nwk-as-asked d p q level two = nwk-in-any-order d p q
-
-pub aps-as-asked : (d : Aps.ApsDesk) (p q : List ℕ) → d.state.aps.level ≡ 5 → d.state.pairs.used + length (Aps.new_senders d p) ≤ 16 → Reordered (Aps.names d) p q
-    → Aps.Alike (Aps.opened d p) (Aps.opened d q)
-aps-as-asked d p q level = aps-in-any-order d p q

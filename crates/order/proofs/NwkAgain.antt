@@ -22,8 +22,10 @@ use Rattle.cells.proofs.Product.{final-keeps}
 use Rattle.order.specs.Stale.{is_done, opens, counter_of, Stale, not-above}
 use Rattle.order.specs.Nwk.{Gateway, claimed_pair, held_cell, held_counter, answer, after}
 use Rattle.order.specs.NwkSteps.{Device, Step, opening, securing, taking, after_step}
-use Rattle.order.specs.NwkMachine.{reaction, Good, taken-good, stays-good, machine}
-use Rattle.order.specs.NwkMachine as taken
+use Rattle.order.specs.NwkMachine.{reaction, Good}
+use Rattle.order.proofs.NwkPlaced.{taken-good, stays-good}
+use Rattle.order.proofs.NwkRun.{machine}
+use Rattle.order.proofs.NwkPlaced as taken
 
 rising : (keys : NetworkKeys) (c : Claim) (held : Option Cell) (b : List ℕ) → Rising (λ n. n.counter) opens c.counter held (nwk_judged keys c held b)
 unfolding nwk_judged

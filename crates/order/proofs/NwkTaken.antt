@@ -1,6 +1,5 @@
--- What order leaves as it is in a list of NWK openings: of a state that is taken by the law of order of `cells` and by what is known of the
--- active number, and of any other because it answers every frame 7. Assumes nothing.
-use Rattle.std.specs.Prelude.{◌≡◌, refl, ◌↔◌, Bool, true, false, ℕ, ◌+◌, ◌≤◌, length}
+-- Demand 3 of NWK where the state is taken. Assumes nothing.
+use Rattle.std.specs.Prelude.{◌≡◌, refl, ◌↔◌, Bool, true, ℕ, ◌+◌, ◌≤◌, length}
 use Rattle.std.proofs.Math.Path.{sym, ap}
 use Rattle.std.proofs.Common.{◌∙◌, arith, length-take-le}
 use Rattle.std.proofs.Math.Bool.{cond}
@@ -10,19 +9,18 @@ use Rattle.cells.specs.Machine.{Machine, run}
 use Rattle.cells.specs.Reorder.{Reordered}
 use Rattle.cells.specs.DeskLaws.{desk-state}
 use Rattle.cells.proofs.Order.{any_order, same_entries}
-use Rattle.cells.proofs.Still.{still-state, still_alike}
 use Rattle.nib.specs.declared.counters.CounterRow.{CounterRow}
 use Rattle.nib.specs.declared.keys.NetworkKeys.{NetworkKeys}
 use Rattle.nib.specs.Active.{next}
-use Rattle.nib.specs.Counters.{Cell, counter_rows, capacity}
+use Rattle.nib.specs.Counters.{Cell, capacity}
 use Rattle.nib.specs.Pairs.{Pair}
 use Rattle.claims.specs.Claims.{nwk_who, pair_of}
 use Rattle.protection.specs.Heard.{Heard}
-use Rattle.judging.specs.OpenNwk.{nwk_unfit, open_nwk}
 use Rattle.order.specs.Frames.{leaves, says}
 use Rattle.order.specs.Nwk.{Gateway, numbers, answer, after, NwkDesk, opened, names, new_pairs, Alike}
-use Rattle.order.specs.NwkMachine.{Good, rows_in_use, machine, taken-good}
-use Rattle.order.specs.NwkActive.{opens, opens-named, turned}
+use Rattle.order.specs.NwkMachine.{Good, rows_in_use}
+use Rattle.order.proofs.NwkRun.{machine}
+use Rattle.order.proofs.NwkActive.{opens, opens-named, turned}
 
 module _ (d : NwkDesk) (p q : List ℕ) (level : d.state.nwk.level ≡ 5) (two : d.state.nwk.keys.used ≤ 2)
     (member : Mem d.state.nwk.active (numbers d.state.nwk.keys))
@@ -39,9 +37,6 @@ module _ (d : NwkDesk) (p q : List ℕ) (level : d.state.nwk.level ≡ 5) (two :
   good : Good keys lent d.state
   good = record { level = level; same_keys = refl; same-lent = refl; fits = omega arith }
 
-  rows-free : length (rows_in_use d.state) + length (new_pairs d p) ≤ capacity lent
-  rows-free = rw (length-take-le d.state.used d.state.rows (omega arith)) free
-
   -- the answers, by the numbers of the buffers
   abbrev entries : List ℕ → List (ℕ × Heard)
   entries r = run (λ (g : Gateway) (i : ℕ). answer g (d.buffer i)) (λ (g : Gateway) (i : ℕ). after g (d.buffer i)) d.state r
@@ -49,14 +44,7 @@ module _ (d : NwkDesk) (p q : List ℕ) (level : d.state.nwk.level ≡ 5) (two :
   abbrev up_next : ℕ
   up_next = next d.state.nwk.active
 
-  -- a frame that opens under the next number in the one order does so in the other
-  moves : (e : ℕ × Heard) → opens keys lent two d.buffer up_next e ≡ true → Mem e (entries p) ↔ Mem e (entries q)
-  unfolding machine
-  moves e t =
-      let x = opens-named up_next (pair_of (nwk_who keys (d.buffer e.0))) e.1.answer t in
-      same_entries its_machine leaves says d p q good rows-free re x.0 e x.1
-
-  taken-alike : Alike (opened d p) (opened d q)
+  pub taken-alike : Alike (opened d p) (opened d q)
   unfolding machine
   taken-alike =
       let same = any_order its_machine leaves says d p q good rows-free re in
@@ -72,24 +60,12 @@ module _ (d : NwkDesk) (p q : List ℕ) (level : d.state.nwk.level ≡ 5) (two :
             ∙ sym (turned keys lent two d.buffer d.state q good member)
             ∙ sym (ap (λ (g : Gateway). g.nwk.active) (desk-state answer after leaves says d q re.once_after));
       }
+    where
+      rows-free : length (rows_in_use d.state) + length (new_pairs d p) ≤ capacity lent
+      rows-free = rw (length-take-le d.state.used d.state.rows (omega arith)) free
 
--- a state that is not taken stays as it is
-untaken-alike : (d : NwkDesk) (p q : List ℕ) → nwk_unfit d.state.nwk d.state.rows d.state.used ≡ true → Reordered (names d) p q → Alike (opened d p) (opened d q)
-unfolding open_nwk
-untaken-alike d p q unfit re =
-    let still : (b : List ℕ) → after d.state b ≡ d.state = λ b. rw unfit in
-    let same = still_alike answer after leaves says counter_rows rows_in_use d still p q re in
-    record {
-      octets = same.buffers;
-      answers = same.answers;
-      counters = same.cells;
-      active = ap (λ (g : Gateway). g.nwk.active) (still-state answer after leaves says counter_rows rows_in_use d still p q re);
-    }
-
-pub nwk-alike : (d : NwkDesk) (p q : List ℕ) → Mem d.state.nwk.active (numbers d.state.nwk.keys)
-    → d.state.used + length (new_pairs d p) ≤ capacity (length d.state.rows) → Reordered (names d) p q → Alike (opened d p) (opened d q)
-nwk-alike d p q member free re = at (nwk_unfit d.state.nwk d.state.rows d.state.used) refl
-  where
-    at : (t : Bool) → nwk_unfit d.state.nwk d.state.rows d.state.used ≡ t → Alike (opened d p) (opened d q)
-    at true e = untaken-alike d p q e re
-    at false e = let fit = taken-good d.state e in taken-alike d p q fit.0.level fit.1 member free re
+      -- a frame that opens under the next number in the one order does so in the other
+      moves : (e : ℕ × Heard) → opens keys lent two d.buffer up_next e ≡ true → Mem e (entries p) ↔ Mem e (entries q)
+      moves e t =
+          let x = opens-named up_next (pair_of (nwk_who keys (d.buffer e.0))) e.1.answer t in
+          same_entries its_machine leaves says d p q good rows-free re x.0 e x.1

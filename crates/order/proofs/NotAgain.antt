@@ -12,8 +12,8 @@ use Rattle.order.specs.Nwk as nwk
 use Rattle.order.specs.Aps as aps
 use Rattle.order.specs.NwkSteps as nwk-steps
 use Rattle.order.specs.ApsSteps as aps-steps
-use Rattle.order.specs.NwkAgain as nwk-proof
-use Rattle.order.specs.ApsAgain as aps-proof
+use Rattle.order.proofs.NwkAgain as nwk-proof
+use Rattle.order.proofs.ApsAgain as aps-proof
 
 -- A device opens `frame`, then opens, secures and takes whatever it may, then is given `again`, which claims the same key number and sender, with a
 -- counter not above that of `frame`: that is refused, 33 if its counter is the one held by then, 34 if below.

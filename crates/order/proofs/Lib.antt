@@ -1,0 +1,20 @@
+-- In reading order: demand 3; old frames; counters and nonces; refusals. After each, the files that prove it.
+pub mod AnyOrder
+pub mod AsAsked
+pub mod NwkPlaced
+pub mod NwkRun
+pub mod ThreeNumbers
+pub mod NwkActive
+pub mod NwkTaken
+pub mod NwkOrder
+pub mod ApsPlaced
+pub mod ApsOrder
+pub mod NotAgain
+pub mod NwkAgain
+pub mod ApsAgain
+pub mod Nonces
+pub mod NwkOnce
+pub mod ApsOnce
+pub mod Refusals
+pub mod NwkKept
+pub mod ApsKept
