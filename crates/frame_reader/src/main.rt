@@ -3,7 +3,7 @@
 // exit status of its own: the script `frame-reader` makes one of that line.
 #![tactic(auto)]
 
-ghost use Rattle.std.specs.Prelude.{length, ◌≤◌};
+ghost use Rattle.std.specs.Prelude.{length, take, ◌≡◌, ◌≤◌};
 
 use reader::{BadField, Event, Fault, Line};
 use std::io::{Read, Write};
@@ -28,7 +28,7 @@ enum Ending {
 // One read more, into the space from `count` on. A read of nothing is the end of the input.
 fn read_more(rt: &HostRuntime, space: &mut [u8], count: usize) -> Input
     requires { count ≤ length space.old }
-    ensures { result.count ≤ length space.new }
+    ensures { (result.count ≤ length space.new) × (result.count ≡ length (take result.count space.new)) }
 {
     match rt.stdin().read(&mut space[count..]) {
         Ok(more) => Input {
@@ -46,7 +46,7 @@ fn read_more(rt: &HostRuntime, space: &mut [u8], count: usize) -> Input
 
 // Reads until the input ends, the space is full or a read fails. No input takes more reads than it has bytes.
 fn read_all(rt: &HostRuntime, space: &mut [u8]) -> Input
-    ensures { result.count ≤ length space.new }
+    ensures { (result.count ≤ length space.new) × (result.count ≡ length (take result.count space.new)) }
 {
     let mut input = Input {
         count: 0,

@@ -1,46 +1,23 @@
 -- Desks with the two frames of OnAir.antt, opened forth and back, and what they end with: computed. Assumes nothing.
-use Rattle.std.specs.Prelude.{◌≡◌, refl, cond, List, [], ◌∷◌, ℕ, eqb, replicate}
+use Rattle.std.specs.Prelude.{◌≡◌, refl, ℕ}
 use Rattle.std.proofs.Common.{sym, ap, ◌∙◌, arith}
-use Rattle.std.proofs.Math.Option.{none, some, some-injective}
+use Rattle.std.proofs.Math.Option.{some, some-injective}
 use Rattle.answer.specs.declared.Answer.TheVariants.{Done, Refused}
 use Rattle.answer.specs.declared.Refusal.TheVariants.{CounterRepeated, TableFull}
 use Rattle.cells.specs.Lists.{any}
 use Rattle.cells.specs.Rows.{find, settle}
 use Rattle.cells.specs.Desk.{open_all}
 use Rattle.cells.specs.Reorder.{Reordered}
-use Rattle.nib.specs.declared.keys.NetworkKey.{NetworkKey}
-use Rattle.nib.specs.declared.keys.NetworkKeys.{NetworkKeys}
 use Rattle.nib.specs.Active.{turn}
-use Rattle.nib.specs.Counters.{empty, pair}
+use Rattle.nib.specs.Counters.{pair}
 use Rattle.nib.specs.Keys.{key_found}
 use Rattle.nib.specs.Pairs.{Pair}
 use Rattle.judging.specs.OpenNwk.{nwk_placed, open_nwk}
-use Rattle.order.specs.Nwk.{NwkDesk, names, opened}
+use Rattle.order.specs.Nwk.{names, opened}
 use Rattle.needed.specs.TwoFrames.{forth, back, saying, turned}
-use Rattle.needed.specs.OnAir.{key, sender, under_two, under_three, Has}
+use Rattle.needed.specs.OnAir.{sender, Has}
 use Rattle.needed.proofs.OnAirLaws.{two-claims, three-claims, two-opens, three-opens, two-again}
-
--- ---- a gateway with the keys 2 and 3 and so many free rows, and frames in the buffers 0 and 1
-
-abbrev pub key_row : ℕ → NetworkKey
-key_row n = record { number = n; key = key }
-
-abbrev pub keys : NetworkKeys
-keys = record { rows = key_row 2 ∷ key_row 3 ∷ []; used = 2 }
-
-abbrev pub start : (active places : ℕ) → (ℕ → List ℕ) → NwkDesk
-start active places buffer = record {
-  state = record { nwk = record { level = 5; own = 0; active = active; keys = keys }; rows = replicate places empty; used = 0 };
-  buffer = buffer;
-  told = λ i. none;
-}
-
--- one frame of each key number; the same frame twice
-abbrev pub both : ℕ → List ℕ
-both i = cond (eqb i 0) under_two under_three
-
-abbrev pub copies : ℕ → List ℕ
-copies i = under_two
+use Rattle.needed.specs.Desks.{keys, start, both, copies}
 
 pub has-two : Has keys 2
 unfolding key_found find

@@ -29,7 +29,8 @@ use Rattle.order.specs.NwkSteps as nwk-steps
 use Rattle.needed.specs.TwoFrames.{forth, back}
 use Rattle.needed.specs.OnAir.{sender, claim_under, under_zero, under_two, under_nine}
 use Rattle.needed.proofs.OnAirLaws.{zero-vouches, nine-vouches, claims-under, opens-under, two-claims, three-claims, two-opens}
-use Rattle.needed.proofs.Desks as nwk-desks
+use Rattle.needed.specs.Desks as nwk-desks
+use Rattle.needed.proofs.Desks as nwk-laws
 
 -- ---- states
 
@@ -106,7 +107,7 @@ pub nwk-example : nwk.Alike (nwk.opened (nwk-desks.start 2 2 nwk-desks.both) for
 unfolding new_keys any
 nwk-example =
     nwk-in-any-order (nwk-desks.start 2 2 nwk-desks.both) forth back (here refl)
-    (rw (two-claims nwk-desks.keys nwk-desks.has-two, three-claims nwk-desks.keys nwk-desks.has-three) (omega arith)) (nwk-desks.reordered 2 2)
+    (rw (two-claims nwk-desks.keys nwk-laws.has-two, three-claims nwk-desks.keys nwk-laws.has-three) (omega arith)) (nwk-laws.reordered 2 2)
 
 -- ---- no frame opens twice: `under_two`, a taken counter, and `under_two` again
 

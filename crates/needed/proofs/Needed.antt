@@ -14,7 +14,8 @@ use Rattle.nib.specs.Counters.{capacity}
 use Rattle.order.specs.Nwk.{NwkDesk, numbers, names, new_pairs, opened, Alike}
 use Rattle.needed.specs.TwoFrames.{forth, back, saying, said_number, forth-once, back-once, none-lost, none-added}
 use Rattle.needed.proofs.OnAirLaws.{two-claims, three-claims}
-use Rattle.needed.proofs.Desks.{keys, start, both, copies, has-two, has-three, reordered, active-forth, active-back, full-forth, full_back, copy-forth, copy-back}
+use Rattle.needed.specs.Desks.{keys, start, both, copies}
+use Rattle.needed.proofs.Desks.{has-two, has-three, reordered, active-forth, active-back, full-forth, full_back, copy-forth, copy-back}
 
 -- the active number one of the keys'
 pub needs-active : ¬ ((d : NwkDesk) (p q : List ℕ)

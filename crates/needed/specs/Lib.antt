@@ -1,3 +1,4 @@
 -- In reading order.
 pub mod TwoFrames
 pub mod OnAir
+pub mod Desks

@@ -24,7 +24,8 @@ use Rattle.order.specs.ApsSteps as aps-steps
 use Rattle.needed.specs.TwoFrames.{forth, back}
 use Rattle.needed_aps.specs.OnAir.{one, from_one, claim_from}
 use Rattle.needed_aps.proofs.OnAirLaws.{one-claims, other-claims, one-opens}
-use Rattle.needed_aps.proofs.Desks as aps-desks
+use Rattle.needed_aps.specs.Desks as aps-desks
+use Rattle.needed_aps.proofs.Desks as aps-laws
 
 -- ---- P6
 
@@ -48,7 +49,7 @@ p6 = record {
 
 pub aps-example : aps.Alike (aps.opened (aps-desks.start 14 aps-desks.both) forth) (aps.opened (aps-desks.start 14 aps-desks.both) back)
 unfolding new_keys any
-aps-example = aps-in-any-order (aps-desks.start 14 aps-desks.both) forth back (rw (one-claims, other-claims) (omega arith)) (aps-desks.reordered 14)
+aps-example = aps-in-any-order (aps-desks.start 14 aps-desks.both) forth back (rw (one-claims, other-claims) (omega arith)) (aps-laws.reordered 14)
 
 -- ---- no frame opens twice: `from_one`, an advance for its sender, and `from_one` again
 

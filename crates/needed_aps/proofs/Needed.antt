@@ -11,7 +11,8 @@ use Rattle.cells.specs.Reorder.{Reordered}
 use Rattle.order.specs.Aps.{ApsDesk, names, new_senders, opened, Alike}
 use Rattle.needed.specs.TwoFrames.{forth, back, saying, said_number, forth-once, back-once, none-lost, none-added}
 use Rattle.needed_aps.proofs.OnAirLaws.{one-claims}
-use Rattle.needed_aps.proofs.Desks.{start, both, copies, reordered, full-forth, full_back, copy-forth, copy-back}
+use Rattle.needed_aps.specs.Desks.{start, both, copies}
+use Rattle.needed_aps.proofs.Desks.{reordered, full-forth, full_back, copy-forth, copy-back}
 
 -- a free row for each new sender
 pub aps-needs-free-rows : ¬ ((d : ApsDesk) (p q : List ℕ)

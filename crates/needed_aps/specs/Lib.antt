@@ -1,2 +1,3 @@
 -- In reading order.
 pub mod OnAir
+pub mod Desks
