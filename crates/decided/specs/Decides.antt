@@ -1,7 +1,7 @@
 -- ONE OUTCOME (document 01, 'What the promises have to decide'). For each public function: two results, with two contents of all memory
 -- lent, that its promise allows are equal. The promises are not written again here: `f-reads.Post` is what the prover itself has read from
--- the `ensures` of f. Of the functions that are proved by hand it reads none; for these the claim is written down, and `f-says` shows that
--- it is their `ensures`.
+-- the `ensures` of f. Of nine functions, which were proved by hand once, the claim is also written down, and `f-says` shows that it is their
+-- `ensures`.
 use Rattle.std.specs.Prelude.{◌≡◌}
 use seplogic.Ra.Ura.{Ura}
 use base.Logic.{SProp}

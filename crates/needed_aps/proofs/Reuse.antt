@@ -1,6 +1,6 @@
 -- WHAT DOES NOT HOLD: no nonce twice under one KEY of APS. Two devices that were heard for the first time both have the trust centre link key, and
 -- both start at outgoing 0 (document 01, 'Opening APS'). So the first frame that is secured to the one and the first to the other go out under one
--- key and one nonce: here the same plain frame gives the same octets. What holds is said of each pair row (crate `order`, specs/Nonces.antt).
+-- key and one nonce: here the same plain frame gives the same octets. What holds is said of each pair row (crate `order`, proofs/Nonces.antt).
 -- Assumes nothing.
 use Rattle.std.specs.Prelude.{◌≡◌, refl, true, List, [], ◌∷◌, ℕ, replicate}
 use Rattle.answer.specs.declared.Answer.TheVariants.{Done}

@@ -1,7 +1,7 @@
 -- NO NONCE TWICE. Whatever frames a device opens and secures (done or refused) and whatever counters it takes, in any mix and for as long as
 -- the outgoing counter is not reset: no counter is used twice, so no two frames are secured under one nonce. For NWK that is said of all keys
 -- together, for APS of each pair row. Two rows may hold one key, and then a nonce may come twice under it: see the crate `needed_aps`,
--- specs/Reuse.antt. Assumes nothing.
+-- proofs/Reuse.antt. Assumes nothing.
 use Rattle.std.specs.Prelude.{◌≡◌, refl, Bool, List, ◌++◌, ℕ, ◌≤◌, ◌<◌, ◌^◌, length, take, get_or}
 use Rattle.std.proofs.Common.{sym, ap, ◌∙◌, arith, length-take-le}
 use Rattle.std.proofs.Math.Option.{Option}

@@ -1,5 +1,5 @@
 -- P1 TO P10: document 01's cases that are marked P, as one list, on the definitions that the promises use. That there are frames and states as the
--- records here ask for is shown in the crates `needed` and `needed_aps`, specs/Inhabited.antt. Assumes nothing.
+-- records here ask for is shown in the crates `needed` and `needed_aps`, proofs/Inhabited.antt. Assumes nothing.
 use Rattle.std.specs.Prelude.{◌≡◌, refl, Bool, true, false, cond, List, [], ◌∷◌, ℕ, ◌≤◌, ◌<◌, length, take}
 use Rattle.std.proofs.Common.{ap, ◌∙◌, arith, eq-eqb, le-ltb}
 use Rattle.std.proofs.Math.Option.{some}
