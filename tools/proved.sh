@@ -51,16 +51,16 @@ report() {
     return 2
 }
 
-# One line for the kit, the sources and the program: another line where one of them is another.
-sums() {
+# A line for the kit and the sources: another line where one of them is another.
+sources() {
     {
         rt version
         cd "$top" && find crates.txt crates -name out -prune -o -type f -exec cksum {} +
-        cksum "$program"
     } 2>/dev/null </dev/null | sort | cksum
 }
 
-is_made() { [ -x "$program" ] && [ -f "$made" ] && [ "$(cat "$made")" = "$(sums)" ]; }
+# That line as it was before the program was proved, and the program that came of it.
+is_made() { [ -x "$program" ] && [ -f "$made" ] && [ "$(cat "$made")" = "$(sources; cksum "$program")" ]; }
 
 # Proves the program and the crates below it, builds it, and runs it on an empty input.
 prove() {
@@ -86,10 +86,12 @@ build() {
     fi
     say "proving what is new or changed of $(count_crates) crates; all of them take $whole"
     rm -f "$made"
+    # before rt reads them: what changes while it proves is proved by the next call
+    before=$(sources)
     prove
     status=$?
     if [ "$status" -eq 0 ] && [ -x "$program" ]; then
-        sums >"$made" || die "cannot write '$made'"
+        { echo "$before" && cksum "$program"; } >"$made" || die "cannot write '$made'"
         exec 9>&-
         return
     fi
