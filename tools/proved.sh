@@ -4,7 +4,7 @@
 #   top    the repository's folder
 #   crate  the program's crate
 #   whole  how long it takes to prove all of it
-# A program that is not proved is removed, and never run. It goes by checksums, so a call that finds nothing changed asks rt for
+# A program that is refused is removed; none that is not proved is run. It goes by checksums, so a call that finds nothing changed asks rt for
 # nothing but its version. POSIX sh.
 
 say() { printf '%s: %s\n' "$name" "$*" >&2; }
