@@ -23,11 +23,9 @@ pub fn pouchkettle_open_aps(aps: Aps, pairs: Pairs, frame: &mut [u8]) -> ToldAps
         × (frame.new ≡ (open_aps aps pairs frame.old).frame) }
 {
     let opened = aps::open_aps(aps, pairs, frame);
-    let answer = opened.answer;
-    let pairs = opened.pairs;
     ToldAps {
-        told: answer::told_of(answer),
-        pairs,
+        told: answer::told_of(opened.answer),
+        pairs: opened.pairs,
     }
 }
 
@@ -45,10 +43,8 @@ pub fn pouchkettle_secure_aps(
         × (out.new ≡ (secure_aps aps pairs device extended plain.now out.old).out) }
 {
     let secured = aps::secure_aps(aps, pairs, device, extended, plain, out);
-    let answer = secured.answer;
-    let pairs = secured.pairs;
     ToldAps {
-        told: answer::told_of(answer),
-        pairs,
+        told: answer::told_of(secured.answer),
+        pairs: secured.pairs,
     }
 }

@@ -24,10 +24,8 @@ pub struct ToldNwk {
 fn told_nwk(opened: OpenedNwk) -> ToldNwk
     ensures { result ≡ record { told = told opened.answer; used = opened.used; active = opened.active } }
 {
-    let answer = opened.answer;
-    let told = answer::told_of(answer);
     ToldNwk {
-        told,
+        told: answer::told_of(opened.answer),
         used: opened.used,
         active: opened.active,
     }
