@@ -1,6 +1,6 @@
 -- The counters of a pair (document 01, 'Called alone'): what advance and record answer and leave.
 use Rattle.std.specs.Prelude.{cond, List, ◌++◌, ℕ, ◌+◌, eqb, ltb, length, take, drop}
-use Rattle.std.proofs.Math.Option.{Option, none, some}
+use Rattle.std.specs.Prelude.{Option, None, Some}
 use Rattle.answer.specs.declared.Outcome.TheVariants.{Done, Refused}
 use Rattle.answer.specs.declared.Refusal.{Refusal}
 use Rattle.answer.specs.declared.Refusal.TheVariants.{Unsupported, NoPair, CounterSpent, TableFull}
@@ -28,8 +28,8 @@ abbrev pub not_advanced : Refusal → Pairs → Advanced
 not_advanced why pairs = record { outcome = Refused why; counter = 0; pairs = pairs }
 
 abbrev pub advanced_by : Pairs → ℕ → Option PairRow → Advanced
-advanced_by pairs d none = not_advanced NoPair pairs
-advanced_by pairs d (some r) =
+advanced_by pairs d None = not_advanced NoPair pairs
+advanced_by pairs d (Some r) =
     cond (eqb r.outgoing 4294967295) (not_advanced CounterSpent pairs)
     (record { outcome = Done; counter = r.outgoing; pairs = holding (at_first (may_use d) raised (in_use pairs)) pairs })
 
@@ -39,8 +39,8 @@ advanced pairs d = cond (ltb 16 pairs.used) (not_advanced Unsupported pairs) (ad
 -- ---- record: a refusal changes nothing; else the device's incoming counter is set; a device not known gets a row as on opening
 
 abbrev pub heard : Option PairCell → ℕ → PairCell
-heard none c = new_pair c
-heard (some p) c = record { attribute = p.attribute; key = p.key; kind = p.kind; outgoing = p.outgoing; incoming = c }
+heard None c = new_pair c
+heard (Some p) c = record { attribute = p.attribute; key = p.key; kind = p.kind; outgoing = p.outgoing; incoming = c }
 
 abbrev pub not_recorded : Refusal → Pairs → Recorded
 not_recorded why pairs = record { outcome = Refused why; pairs = pairs }

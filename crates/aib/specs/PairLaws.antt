@@ -2,7 +2,7 @@
 use Rattle.std.specs.Prelude.{◌≡◌, Bool, true, List, ◌++◌, ℕ, suc, ◌+◌, ◌≤◌, ◌<◌, min, length, drop}
 use Rattle.std.proofs.Common.{sym, ap, ◌∙◌, arith, add-one, length-set, take-append-drop, take_all, length-take-le, drop-set-lt}
 use Rattle.std.proofs.Math.Bool.{false}
-use Rattle.std.proofs.Math.Option.{some}
+use Rattle.std.specs.Prelude.{Some}
 use Rattle.std.proofs.Math.Decide.{dec_le}
 use Rattle.std.proofs.Math.Dec.{ltb}
 use Rattle.std.proofs.Math.ListN.{take, get_or, set}
@@ -168,8 +168,8 @@ module _ (pairs : Pairs) (d : ℕ) where
       unfolding recorded roomy
       recorded-old h =
           let q : known.device ≡ d = eqb-true known.device d (laws.passes-used (is_row pair_rows d) pairs.rows pairs.used past fits h) in
-          let e : put pair_rows (in_use pairs) d (heard (find pair_rows (in_use pairs) d) c) ≡ take pairs.used (set pairs.rows heard-at (row_of d (heard (some (cell_in known)) c))) =
+          let e : put pair_rows (in_use pairs) d (heard (find pair_rows (in_use pairs) d) c) ≡ take pairs.used (set pairs.rows heard-at (row_of d (heard (Some (cell_in known)) c))) =
           lent-put pair_rows pairs.rows pairs.used d past fits (heard (find pair_rows (in_use pairs) d) c) (omega arith)
           ∙ rw (lent-cell pair_rows pairs.rows pairs.used d past fits, lt-ltb heard-at pairs.used h) in
-          let w = written pairs.used (row_of d (heard (some (cell_in known)) c)) (put pair_rows (in_use pairs) d (heard (find pair_rows (in_use pairs) d) c)) h fits e in
-          rw (not-over, with_row h, w.0, w.1) (λ i. record { outcome = Done; pairs = record { rows = set pairs.rows heard-at (row_of (q i) (heard (some (cell_in known)) c)); used = pairs.used } })
+          let w = written pairs.used (row_of d (heard (Some (cell_in known)) c)) (put pair_rows (in_use pairs) d (heard (find pair_rows (in_use pairs) d) c)) h fits e in
+          rw (not-over, with_row h, w.0, w.1) (λ i. record { outcome = Done; pairs = record { rows = set pairs.rows heard-at (row_of (q i) (heard (Some (cell_in known)) c)); used = pairs.used } })

@@ -1,6 +1,6 @@
 -- The pair rows (document 01, 'The state', 'Opening APS' and 'Securing APS'): a table of rows, each for a device.
 use Rattle.std.specs.Prelude.{refl, Bool, true, false, ◌&&◌, List, [], ◌∷◌, ℕ, eqb, leb, take, replicate}
-use Rattle.std.proofs.Math.Option.{Option, none, some}
+use Rattle.std.specs.Prelude.{Option, None, Some}
 use Rattle.std.proofs.Common.{eq-eqb, eqb-true}
 use Rattle.cells.specs.Rows.{Rows, find}
 use Rattle.aib.specs.declared.pairs.PairRow.{PairRow}
@@ -66,8 +66,8 @@ nothing = record { found = false; row = row_of 0 (record { attribute = 0; key = 
 
 -- opening: the first row of that device
 abbrev pub answered : ℕ → Option PairCell → PairFound
-answered d none = nothing
-answered d (some p) = record { found = true; row = row_of d p }
+answered d None = nothing
+answered d (Some p) = record { found = true; row = row_of d p }
 
 unfoldable pub pair_found : Pairs → ℕ → PairFound
 pair_found pairs d = answered d (find pair_rows (take pairs.used pairs.rows) d)
@@ -77,8 +77,8 @@ abbrev pub may_use : ℕ → PairRow → Bool
 may_use d r = eqb r.device d && leb r.attribute verified
 
 abbrev pub answered_row : Option PairRow → PairFound
-answered_row none = nothing
-answered_row (some r) = record { found = true; row = r }
+answered_row None = nothing
+answered_row (Some r) = record { found = true; row = r }
 
 unfoldable pub usable_found : Pairs → ℕ → PairFound
 usable_found pairs d = answered_row (first (may_use d) (take pairs.used pairs.rows))

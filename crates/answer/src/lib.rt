@@ -5,7 +5,7 @@ ghost use Rattle.std.specs.Prelude.{◌≡◌};
 ghost use Rattle.answer.specs.Numbers.{number, outcome_number, told};
 
 // Why a call is refused: a case for each reason.
-#[derive(Clone, Copy)]
+#[derive(Clone, Copy, Debug, PartialEq, Eq)]
 pub enum Refusal {
     // header, command, auxiliary header or tag cut short
     Cut,
@@ -37,78 +37,78 @@ pub enum Refusal {
     NoRoom,
 }
 
-// What a call that only does its work or refuses answers.
-#[derive(Clone, Copy)]
-pub enum Outcome {
-    Done,
-    Refused(Refusal),
-}
-
-// What opening and securing answer. Plain: the frame's security bit is clear.
-#[derive(Clone, Copy)]
-pub enum Answer {
+// What opening and securing hand back where they do not refuse. Plain: the frame's security bit is clear.
+#[derive(Clone, Copy, Debug, PartialEq, Eq)]
+pub enum Accepted {
     Done { start: usize, len: usize },
     Plain { start: usize, len: usize },
-    Refused(Refusal),
 }
+
+// What opening and securing answer.
+pub type Answer = Result<Accepted, Refusal>;
 
 // The answer's number, and the start and length that go with it.
 #[repr(C)]
-#[derive(Clone, Copy)]
+#[derive(Clone, Copy, Debug, PartialEq, Eq)]
 pub struct Told {
     pub number: u8,
     pub start: usize,
     pub len: usize,
 }
 
-pub fn number_of(refusal: Refusal) -> u8
-    ensures { result ≡ number refusal }
-{
-    match refusal {
-        Refusal::Cut => 2,
-        Refusal::CounterSpent => 30,
-        Refusal::SenderAbsent => 31,
-        Refusal::KeyNotAllowed => 32,
-        Refusal::CounterRepeated => 33,
-        Refusal::CounterBehind => 34,
-        Refusal::NoNetworkKey => 40,
-        Refusal::NoPair => 41,
-        Refusal::TableFull => 42,
-        Refusal::DeviceAbsent => 43,
-        Refusal::WrongTag => 5,
-        Refusal::CounterExhausted => 6,
-        Refusal::Unsupported => 7,
-        Refusal::NoRoom => 8,
+impl From<Refusal> for u8 {
+    ghost from_gives = { λ refusal n. n ≡ number refusal };
+
+    fn from(refusal: Refusal) -> u8 {
+        match refusal {
+            Refusal::Cut => 2,
+            Refusal::CounterSpent => 30,
+            Refusal::SenderAbsent => 31,
+            Refusal::KeyNotAllowed => 32,
+            Refusal::CounterRepeated => 33,
+            Refusal::CounterBehind => 34,
+            Refusal::NoNetworkKey => 40,
+            Refusal::NoPair => 41,
+            Refusal::TableFull => 42,
+            Refusal::DeviceAbsent => 43,
+            Refusal::WrongTag => 5,
+            Refusal::CounterExhausted => 6,
+            Refusal::Unsupported => 7,
+            Refusal::NoRoom => 8,
+        }
     }
 }
 
-pub fn outcome_number(outcome: Outcome) -> u8
+// The number of what a call that only does its work answers.
+pub fn outcome_number(outcome: Result<(), Refusal>) -> u8
     ensures { result ≡ outcome_number outcome }
 {
     match outcome {
-        Outcome::Done => 0,
-        Outcome::Refused(refusal) => number_of(refusal),
+        Ok(()) => 0,
+        Err(refusal) => u8::from(refusal),
     }
 }
 
-pub fn told_of(answer: Answer) -> Told
-    ensures { result ≡ told answer }
-{
-    match answer {
-        Answer::Done { start, len } => Told {
-            number: 0,
-            start,
-            len,
-        },
-        Answer::Plain { start, len } => Told {
-            number: 1,
-            start,
-            len,
-        },
-        Answer::Refused(refusal) => Told {
-            number: number_of(refusal),
-            start: 0,
-            len: 0,
-        },
+impl From<Answer> for Told {
+    ghost from_gives = { λ answer t. t ≡ told answer };
+
+    fn from(answer: Answer) -> Told {
+        match answer {
+            Ok(Accepted::Done { start, len }) => Told {
+                number: 0,
+                start,
+                len,
+            },
+            Ok(Accepted::Plain { start, len }) => Told {
+                number: 1,
+                start,
+                len,
+            },
+            Err(refusal) => Told {
+                number: u8::from(refusal),
+                start: 0,
+                len: 0,
+            },
+        }
     }
 }

@@ -1,6 +1,6 @@
 -- Opening APS (document 01, 'Order of checks'): a judgement that only reads, and then one commit.
 use Rattle.std.specs.Prelude.{Bool, cond, not, ◌||◌, List, ℕ, ◌+◌, eqb, ltb, length}
-use Rattle.std.proofs.Math.Option.{Option, none, some}
+use Rattle.std.specs.Prelude.{Option, None, Some}
 use Rattle.answer.specs.declared.Answer.{Answer}
 use Rattle.answer.specs.declared.Answer.TheVariants.{Done}
 use Rattle.answer.specs.declared.Refusal.TheVariants.{Unsupported, Cut, KeyNotAllowed, CounterRepeated, CounterBehind, WrongTag, TableFull}
@@ -21,12 +21,12 @@ use Rattle.protection.specs.Protection.{level, tag_size, payload_size, vouches, 
 
 -- an unknown device is tried with the trust centre link key; no counter is held for it
 abbrev pub link_key : Option PairCell → List ℕ
-link_key none = trust_center_link_key
-link_key (some p) = p.key
+link_key None = trust_center_link_key
+link_key (Some p) = p.key
 
 abbrev pub incoming : Option PairCell → Option ℕ
-incoming none = none
-incoming (some p) = some p.incoming
+incoming None = None
+incoming (Some p) = Some p.incoming
 
 -- Known device and counter equal to its incoming counter: 33; below it: 34. Fewer than 4 bytes left: 2. Wrong tag: 5. Unknown device and no free row: 42.
 -- (A key identifier that chooses no key is 32. No frame comes so far: `aps_who` has refused it, in its place in the order.)

@@ -1,6 +1,6 @@
 -- The steps by which the code comes to `open_aps`.
 use Rattle.std.specs.Prelude.{Bool, cond, not, List, ℕ, ◌+◌, ltb}
-use Rattle.std.proofs.Math.Option.{Option, none, some}
+use Rattle.std.specs.Prelude.{Option, None, Some}
 use Rattle.answer.specs.declared.Answer.{Answer}
 use Rattle.answer.specs.declared.Answer.TheVariants as answer
 use Rattle.answer.specs.declared.Outcome.{Outcome}
@@ -18,7 +18,7 @@ use Rattle.aps.specs.OpenAps.{Opened, aps_judged, aps_committed}
 
 -- the pair of a row that a search found
 abbrev pub held_in : PairFound → Option PairCell
-held_in f = cond f.found (some (cell_in f.row)) none
+held_in f = cond f.found (Some (cell_in f.row)) None
 
 -- the tests before the tag: the counter held for the device, and the frame's size
 unfoldable pub allowed : Claim → Option ℕ → ℕ → Outcome

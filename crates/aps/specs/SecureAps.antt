@@ -1,6 +1,6 @@
 -- Securing APS (document 01, 'Order of checks'), from a plain frame to an output buffer.
 use Rattle.std.specs.Prelude.{Bool, cond, not, ◌||◌, ◌&&◌, List, ◌++◌, ℕ, ◌+◌, eqb, ltb, length, take, drop, get_or}
-use Rattle.std.proofs.Math.Option.{Option, none, some}
+use Rattle.std.specs.Prelude.{Option, None, Some}
 use Rattle.answer.specs.declared.Answer.{Answer}
 use Rattle.answer.specs.declared.Answer.TheVariants.{Done, Refused}
 use Rattle.answer.specs.declared.Refusal.{Refusal}
@@ -38,11 +38,11 @@ is_transport_key plain header = is_command (get_or plain 0 0) && eqb (get_or pla
 
 -- the key type's key, if the type is taken
 abbrev pub carried : ℕ → Option KeyIdentifier
-carried kind = cond (eqb kind 1) (some Transport) (cond (eqb kind 3) (some Load) (cond (eqb kind 4) (some Load) none))
+carried kind = cond (eqb kind 1) (Some Transport) (cond (eqb kind 3) (Some Load) (cond (eqb kind 4) (Some Load) None))
 
 -- 0 stands for a second byte that is missing: no key type is 0 among those taken
 abbrev pub identifier_for : List ℕ → ℕ → Option KeyIdentifier
-identifier_for plain header = cond (is_transport_key plain header) (carried (get_or plain (header + 1) 0)) (some Link)
+identifier_for plain header = cond (is_transport_key plain header) (carried (get_or plain (header + 1) 0)) (Some Link)
 
 -- ---- the finished frame: control, counter and sender are 13 bytes, and a tag of 4
 
@@ -66,8 +66,8 @@ aps_done s pairs device row identifier plain out header = record {
 -- No row for the destination with attribute 0, 1 or 2: 41. Its outgoing counter 2^32-1: 30. Data without the extended nonce asked for: 31. Too
 -- little room: 8.
 abbrev pub aps_sent : Aps → Pairs → ℕ → Bool → KeyIdentifier → List ℕ → List ℕ → ℕ → Option PairRow → Secured
-aps_sent s pairs device extended identifier plain out header none = not_secured NoPair out pairs
-aps_sent s pairs device extended identifier plain out header (some row) =
+aps_sent s pairs device extended identifier plain out header None = not_secured NoPair out pairs
+aps_sent s pairs device extended identifier plain out header (Some row) =
     cond (eqb row.outgoing spent) (not_secured CounterSpent out pairs)
     (cond (not (is_command (get_or plain 0 0)) && not extended) (not_secured SenderAbsent out pairs)
     (cond (ltb (length out) (length plain + aps_added)) (not_secured NoRoom out pairs)
@@ -75,8 +75,8 @@ aps_sent s pairs device extended identifier plain out header (some row) =
 
 -- A Transport-Key command whose second byte is missing or not 1, 3 or 4: 7.
 abbrev pub aps_keyed : Aps → Pairs → ℕ → Bool → List ℕ → List ℕ → ℕ → Option KeyIdentifier → Secured
-aps_keyed s pairs device extended plain out header none = not_secured Unsupported out pairs
-aps_keyed s pairs device extended plain out header (some identifier) =
+aps_keyed s pairs device extended plain out header None = not_secured Unsupported out pairs
+aps_keyed s pairs device extended plain out header (Some identifier) =
     aps_sent s pairs device extended identifier plain out header (first (may_use device) (in_use pairs))
 
 -- SECURING APS, to a device. State or over 1,006: 7. Empty: 2. Kind not taken or security bit clear: 7. Header cut, or a command without a first

@@ -1,6 +1,6 @@
 -- The steps by which the code comes to `secure_aps`: all checks first, as one judgement.
 use Rattle.std.specs.Prelude.{Bool, cond, not, ◌||◌, ◌&&◌, List, ℕ, ◌+◌, eqb, ltb, length, get_or}
-use Rattle.std.proofs.Math.Option.{Option, none, some}
+use Rattle.std.specs.Prelude.{Option, None, Some}
 use Rattle.answer.specs.declared.Outcome.{Outcome}
 use Rattle.answer.specs.declared.Outcome.TheVariants.{Done, Refused}
 use Rattle.answer.specs.declared.Refusal.TheVariants.{Unsupported, Cut, NoPair, CounterSpent, SenderAbsent, NoRoom}
@@ -18,11 +18,11 @@ use Rattle.aps.specs.SecureAps.{carried, identifier_for, aps_added}
 
 -- a key type that is not taken is a refusal
 abbrev pub choice : Option KeyIdentifier → Chosen
-choice none = chosen.Refused Unsupported
-choice (some identifier) = chosen.Key identifier
+choice None = chosen.Refused Unsupported
+choice (Some identifier) = chosen.Key identifier
 
 abbrev pub carried_by : ℕ → ℕ → Option KeyIdentifier
-carried_by command kind = cond (eqb command 0x05) (carried kind) (some Link)
+carried_by command kind = cond (eqb command 0x05) (carried kind) (Some Link)
 
 -- the header, and of a command its first payload byte
 abbrev pub shortest : ℕ → ℕ
@@ -42,11 +42,11 @@ plain_taken s used plain =
 
 -- the row that a search found
 abbrev pub row_in : PairFound → Option PairRow
-row_in f = cond f.found (some f.row) none
+row_in f = cond f.found (Some f.row) None
 
 abbrev pub row_sends : Bool → Bool → ℕ → ℕ → Option PairRow → Outcome
-row_sends command extended size room none = Refused NoPair
-row_sends command extended size room (some row) =
+row_sends command extended size room None = Refused NoPair
+row_sends command extended size room (Some row) =
     cond (eqb row.outgoing spent) (Refused CounterSpent)
     (cond (not command && not extended) (Refused SenderAbsent)
     (cond (ltb room (size + aps_added)) (Refused NoRoom) Done))

@@ -4,7 +4,7 @@ use Rattle.std.specs.Prelude.{◌≡◌, ◌⊎◌, Bool, cond, not, ◌||◌, �
 use Rattle.std.proofs.Math.Path.{refl}
 use Rattle.std.proofs.Common.{sym, ap, ◌∙◌, inl, inr, lt-ltb}
 use Rattle.std.proofs.Math.Bool.{true, false}
-use Rattle.std.proofs.Math.Option.{Option, none, some}
+use Rattle.std.specs.Prelude.{Option, None, Some}
 use mathlib.Core.List.Memᴰ
 use mathlib.Core.List.Memᴰ.{cases_cons}
 use mathlib.Core.List.Memᴰ.{head as here}
@@ -23,15 +23,15 @@ module _ {R K C F : Type 0} (rows : Rows R K C) (names : F → Option K) (places
   pub record FreeRows (rs : List R) (fs : List F) : Type 0 where
     pub fresh : List K
     pub enough : length rs + length fresh ≤ places
-    pub each : (f : F) → Mem f fs → (k : K) → names f ≡ some k → has_row rows rs k ≡ false → Mem k fresh
+    pub each : (f : F) → Mem f fs → (k : K) → names f ≡ Some k → has_row rows rs k ≡ false → Mem k fresh
 
   -- ---- it is there at the start: `new_keys` is such a list
 
-  newly : (rs : List R) (ks : List K) (k : K) → has_row rows rs k ≡ false → Mem k (with_key rows rs (some k) ks)
+  newly : (rs : List R) (ks : List K) (k : K) → has_row rows rs k ≡ false → Mem k (with_key rows rs (Some k) ks)
   unfolding with_key
   newly rs ks k e = at (any (λ (j : K). rows.same j k) ks) refl
     where
-      at : (b : Bool) → any (λ (j : K). rows.same j k) ks ≡ b → Mem k (with_key rows rs (some k) ks)
+      at : (b : Bool) → any (λ (j : K). rows.same j k) ks ≡ b → Mem k (with_key rows rs (Some k) ks)
       at false q = rw (e, q) (here refl)
       at true q =
           let x = any_found (λ (j : K). rows.same j k) ks q in
@@ -39,10 +39,10 @@ module _ {R K C F : Type 0} (rows : Rows R K C) (names : F → Option K) (places
 
   listed : (rs : List R) (o : Option K) (ks : List K) (k : K) → Mem k ks → Mem k (with_key rows rs o ks)
   unfolding with_key
-  listed rs none ks k m = m
-  listed rs (some j) ks k m = either (Mem k) (has_row rows rs j || any (λ (i : K). rows.same i j) ks) m (there m)
+  listed rs None ks k m = m
+  listed rs (Some j) ks k m = either (Mem k) (has_row rows rs j || any (λ (i : K). rows.same i j) ks) m (there m)
 
-  new_keys-each : (rs : List R) (fs : List F) (f : F) → Mem f fs → (k : K) → names f ≡ some k → has_row rows rs k ≡ false → Mem k (new_keys rows names rs fs)
+  new_keys-each : (rs : List R) (fs : List F) (f : F) → Mem f fs → (k : K) → names f ≡ Some k → has_row rows rs k ≡ false → Mem k (new_keys rows names rs fs)
   unfolding new_keys
   new_keys-each rs [] f m k n e = absurd (not-nil m)
   new_keys-each rs (g ∷ gs) f m k n e = at (λ q. new_keys-each rs gs f q k n e) (cases_cons m)
@@ -56,7 +56,7 @@ module _ {R K C F : Type 0} (rows : Rows R K C) (names : F → Option K) (places
 
   -- ---- it gives room, and it lasts
 
-  pub free-room : (rs : List R) (f : F) (fs : List F) (k : K) → FreeRows rs (f ∷ fs) → names f ≡ some k → room rows places rs k ≡ true
+  pub free-room : (rs : List R) (f : F) (fs : List F) (k : K) → FreeRows rs (f ∷ fs) → names f ≡ Some k → room rows places rs k ≡ true
   unfolding room
   free-room rs f fs k r n = at (has_row rows rs k) refl
     where
@@ -72,7 +72,7 @@ module _ {R K C F : Type 0} (rows : Rows R K C) (names : F → Option K) (places
   pub free-fewer : (rs : List R) (fs gs : List F) → ((f : F) → Mem f gs → Mem f fs) → FreeRows rs fs → FreeRows rs gs
   free-fewer rs fs gs sub r = record { fresh = r.fresh; enough = r.enough; each = λ f m. r.each f (sub f m) }
 
-  module _ (rs : List R) (f : F) (fs : List F) (k : K) (r : FreeRows rs (f ∷ fs)) (n : names f ≡ some k) where
+  module _ (rs : List R) (f : F) (fs : List F) (k : K) (r : FreeRows rs (f ∷ fs)) (n : names f ≡ Some k) where
     -- with a row for k, k is no more among the fresh keys
     free-put : (c : C) → FreeRows (put rows rs k c) fs
     free-put c = record {
@@ -89,7 +89,7 @@ module _ {R K C F : Type 0} (rows : Rows R K C) (names : F → Option K) (places
         enough true e l = omega (arith, r.enough, keep-length other r.fresh)
         enough false e l = omega (arith, r.enough, keep-shorter other (r.each f (here refl) k n e) (ap not (rows.same_refl k)))
 
-        each : (g : F) → Mem g fs → (j : K) → names g ≡ some j → has_row rows (put rows rs k c) j ≡ false → (b : Bool) → rows.same k j ≡ b → Mem j (keep other r.fresh)
+        each : (g : F) → Mem g fs → (j : K) → names g ≡ Some j → has_row rows (put rows rs k c) j ≡ false → (b : Bool) → rows.same k j ≡ b → Mem j (keep other r.fresh)
         each g m j q z true e = clash (has_row rows (put rows rs k c) j) (ap (has_row rows (put rows rs k c)) (sym (rows.same-eq k j e)) ∙ has-put rows rs k c) z
         each g m j q z false e = keep-mem other (r.each g (there m) j q (sym (has-put-other rows rs k j c e) ∙ z)) (ap not e)
 

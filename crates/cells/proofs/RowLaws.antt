@@ -4,7 +4,7 @@ use Rattle.std.specs.Prelude.{◌≡◌, Bool, ◌||◌}
 use Rattle.std.proofs.Math.Path.{refl, ap}
 use Rattle.std.proofs.Common.{◌∙◌}
 use Rattle.std.proofs.Math.Bool.{true, false, cond}
-use Rattle.std.proofs.Math.Option.{Option, none, some}
+use Rattle.std.specs.Prelude.{Option, None, Some}
 use mathlib.Core.List.{List, [], ◌∷◌}
 use Prim.Native.Nat.{ℕ, suc, ◌≤◌}
 use native.Mathlib.Omega.{arith}
@@ -36,13 +36,13 @@ module _ {R K C : Type 0} (rows : Rows R K C) where
       at true e ih = rw (e, not-other (rows.make k c) k j (rows.key-make k c) d, not-other r k j (rows.same-eq (rows.key_of r) k e) d)
       at false e ih = rw (e, ih)
 
-  pub find-put : (rs : List R) (k : K) (c : C) → find rows (put rows rs k c) k ≡ some c
+  pub find-put : (rs : List R) (k : K) (c : C) → find rows (put rows rs k c) k ≡ Some c
   unfolding find put
-  find-put [] k c = rw (made k c) (ap some (rows.cell-make k c))
+  find-put [] k c = rw (made k c) (ap Some (rows.cell-make k c))
   find-put (r ∷ rs) k c = at (is_row rows k r) refl (find-put rs k c)
     where
-      at : (b : Bool) → is_row rows k r ≡ b → find rows (put rows rs k c) k ≡ some c → find rows (put rows (r ∷ rs) k c) k ≡ some c
-      at true e ih = rw (e, made k c) (ap some (rows.cell-make k c))
+      at : (b : Bool) → is_row rows k r ≡ b → find rows (put rows rs k c) k ≡ Some c → find rows (put rows (r ∷ rs) k c) k ≡ Some c
+      at true e ih = rw (e, made k c) (ap Some (rows.cell-make k c))
       at false e ih = rw (e, e) ih
 
   -- every other key has a row if it had one, and k has one
@@ -77,12 +77,12 @@ module _ {R K C : Type 0} (rows : Rows R K C) where
       at false false ih = ap suc ih
 
   -- where no row is found no cell is
-  pub no_row : (rs : List R) (k : K) → has_row rows rs k ≡ false → find rows rs k ≡ none
+  pub no_row : (rs : List R) (k : K) → has_row rows rs k ≡ false → find rows rs k ≡ None
   unfolding has_row any find
   no_row [] k e = refl
   no_row (r ∷ rs) k e = at (is_row rows k r) (λ f. no_row rs k f) e
     where
-      at : (b : Bool) → (has_row rows rs k ≡ false → find rows rs k ≡ none) → (b || has_row rows rs k) ≡ false → cond b (some (rows.cell_of r)) (find rows rs k) ≡ none
+      at : (b : Bool) → (has_row rows rs k ≡ false → find rows rs k ≡ None) → (b || has_row rows rs k) ≡ false → cond b (Some (rows.cell_of r)) (find rows rs k) ≡ None
       at true ih f = clash true refl f
       at false ih f = ih f
 

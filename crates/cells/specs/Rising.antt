@@ -1,7 +1,7 @@
 -- What a frame may do to a cell that is counted, and never falls. RisingLaws.antt of proofs/ shows what follows.
 use Rattle.std.specs.Prelude.{◌≡◌, Bool, ℕ, ◌≤◌}
 use Rattle.std.proofs.Math.Bool.{false}
-use Rattle.std.proofs.Math.Option.{Option, some}
+use Rattle.std.specs.Prelude.{Option, Some}
 use Rattle.cells.specs.Rows.{Reaction, leave, become}
 
 module _ {O C : Type 0} (counted : C → ℕ) (taken : O → Bool) where
@@ -9,10 +9,10 @@ module _ {O C : Type 0} (counted : C → ℕ) (taken : O → Bool) where
   -- held, and it is not taken where there is no room.
   pub data Rising (n : ℕ) (held : Option C) : Reaction O C → Type 0 where
     stops : (out : O) → taken out ≡ false → Rising n held (leave out)
-    rises : (c : C) (out full : O) → counted c ≡ n → ((d : C) → held ≡ some d → counted d ≤ n) → taken full ≡ false → Rising n held (become c out full)
+    rises : (c : C) (out full : O) → counted c ≡ n → ((d : C) → held ≡ Some d → counted d ≤ n) → taken full ≡ false → Rising n held (become c out full)
 
   -- a cell counted h or more
   pub record AtLeast (h : ℕ) (now : Option C) : Type 0 where
     pub cell : C
-    pub is : now ≡ some cell
+    pub is : now ≡ Some cell
     pub up : h ≤ counted cell

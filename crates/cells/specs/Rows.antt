@@ -2,7 +2,7 @@
 -- A search takes the first row that matches; a new row goes after the last.
 use Rattle.std.specs.Prelude.{◌≡◌, Bool, true, ◌||◌, ℕ, length}
 use Rattle.std.proofs.Math.Bool.{cond}
-use Rattle.std.proofs.Math.Option.{Option, none, some}
+use Rattle.std.specs.Prelude.{Option, None, Some}
 use mathlib.Core.List.{List, [], ◌∷◌}
 use Rattle.std.proofs.Math.Dec.{ltb}
 use Rattle.cells.specs.Lists.{any}
@@ -42,8 +42,8 @@ module _ {R K C : Type 0} (rows : Rows R K C) where
 
   -- And the cell that is held in it, in the first row whose key is k: that is what a frame is judged by.
   unfoldable pub find : List R → K → Option C
-  find [] k = none
-  find (r ∷ rs) k = cond (is_row k r) (some (rows.cell_of r)) (find rs k)
+  find [] k = None
+  find (r ∷ rs) k = cond (is_row k r) (Some (rows.cell_of r)) (find rs k)
 
   -- That row with the cell c instead, or where there is none a new row after the last. Every other row stays as it is.
   unfoldable pub put : List R → K → C → List R
@@ -71,8 +71,8 @@ module _ {R K C : Type 0} (rows : Rows R K C) where
   -- one more key, unless it has a row or is listed already
   unfoldable pub with_key : List R → Option K → List K → List K
   unfolding has_row
-  with_key rs none ks = ks
-  with_key rs (some k) ks = cond (has_row rs k || any (λ (j : K). rows.same j k) ks) ks (k ∷ ks)
+  with_key rs None ks = ks
+  with_key rs (Some k) ks = cond (has_row rs k || any (λ (j : K). rows.same j k) ks) ks (k ∷ ks)
 
   -- the keys that the frames name and that have no row, each once
   unfoldable pub new_keys : {F : Type 0} → (names : F → Option K) → List R → List F → List K
@@ -87,4 +87,4 @@ reply_of (become c out full) = out
 
 unfoldable pub cell_after : {O C : Type 0} → Option C → Reaction O C → Option C
 cell_after old (leave out) = old
-cell_after old (become c out full) = some c
+cell_after old (become c out full) = Some c

@@ -1,6 +1,6 @@
 -- What a frame's headers settle, and what it claims where they do not (document 01, 'Order of checks', opening, up to the keys).
 use Rattle.std.specs.Prelude.{Bool, true, false, cond, not, List, ℕ, ◌-◌, eqb, ltb, length}
-use Rattle.std.proofs.Math.Option.{Option, none, some}
+use Rattle.std.specs.Prelude.{Option, None, Some}
 use Rattle.answer.specs.declared.Answer.TheVariants.{Plain, Refused}
 use Rattle.answer.specs.declared.Refusal.{Refusal}
 use Rattle.answer.specs.declared.Refusal.TheVariants.{Unsupported, Cut, CounterSpent, SenderAbsent, KeyNotAllowed, NoNetworkKey, DeviceAbsent}
@@ -97,9 +97,9 @@ aps_who b = cond (ltb 1024 (length b)) (refuse Unsupported) (cond (ltb (length b
 -- ---- the pair that a frame names, if it names one
 
 abbrev pub pair_of : Who → Option Pair
-pair_of (Told a) = none
-pair_of (Claims c) = some (pair (number_of c.key) c.sender)
+pair_of (Told a) = None
+pair_of (Claims c) = Some (pair (number_of c.key) c.sender)
 
 abbrev pub sender_of : Who → Option ℕ
-sender_of (Told a) = none
-sender_of (Claims c) = some c.sender
+sender_of (Told a) = None
+sender_of (Claims c) = Some c.sender

@@ -1,7 +1,7 @@
 -- DEMAND 3 OF THE CODE, APS: `aps-code-in-any-order`. Assumes nothing.
 use Rattle.std.specs.Prelude.{◌≡◌, refl, List, [], ◌∷◌, ℕ, ◌+◌, ◌≤◌, length}
 use Rattle.std.proofs.Common.{ap, ◌∙◌}
-use Rattle.std.proofs.Math.Option.{some}
+use Rattle.std.specs.Prelude.{Some}
 use Rattle.answer.specs.Numbers.{told}
 use Rattle.cells.specs.Desk.{write, open_at, open_all}
 use Rattle.cells.specs.Reorder.{Reordered}
@@ -9,7 +9,7 @@ use Rattle.aps.specs.OpenAps.{open_aps}
 use Rattle.order.proofs.AnyOrder.{aps-in-any-order}
 use Rattle.order.specs.Frames.{leaves, says}
 use Rattle.order.specs.Aps as aps
-use Rattle.gateway_order.specs.ApsCalls.{Call, called, Calls, none, then}
+use Rattle.gateway_order.specs.ApsCalls.{Call, called, Calls, None, then}
 
 -- a call leaves what the definition says
 promised-is : (g : aps.Gateway) (b : List ℕ) (c : Call g b) → record { answer = c.result.answer; frame = c.last.1.1.0; pairs = c.result.pairs } ≡ open_aps g.aps g.pairs b
@@ -24,13 +24,13 @@ called_is d i c =
     λ j. record {
       state = record { aps = d.state.aps; pairs = (same j).pairs };
       buffer = write d.buffer i (same j).frame;
-      told = write d.told i (some ((same j).answer, told (same j).answer));
+      told = write d.told i (Some ((same j).answer, told (same j).answer));
     }
 
 -- so do calls one after another
 pub calls_are : {d e : aps.ApsDesk} {p : List ℕ} → Calls d p e → e ≡ aps.opened d p
 unfolding open_all
-calls_are none = refl
+calls_are None = refl
 calls_are {d} (then i p c rest) = calls_are rest ∙ ap (λ (x : aps.ApsDesk). aps.opened x p) (called_is d i c)
 
 pub aps-code-in-any-order : (d e e' : aps.ApsDesk) (p q : List ℕ)
@@ -61,5 +61,5 @@ call-of g b =
 
 pub calls-exist : (d : aps.ApsDesk) (p : List ℕ) → Calls d p (aps.opened d p)
 unfolding open_all open_at call-of
-calls-exist d [] = none
+calls-exist d [] = None
 calls-exist d (i ∷ p) = then i p (call-of d.state (d.buffer i)) (calls-exist (open_at aps.answer aps.after leaves says d i) p)

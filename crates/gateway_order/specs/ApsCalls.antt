@@ -1,7 +1,7 @@
 -- The same for `aps::open_aps`: a gateway that calls it for one frame after another. `Reads.Post` is what the prover itself has read from the `ensures`
 -- of the code.
 use Rattle.std.specs.Prelude.{◌≡◌, List, [], ◌∷◌, ℕ}
-use Rattle.std.proofs.Math.Option.{some}
+use Rattle.std.specs.Prelude.{Some}
 use contract.Lifetimes.{Lfts}
 use denote.Triple.Entry.{Args, Res}
 use denote.Triple.Clauses.{Lasts, at_exit}
@@ -27,10 +27,10 @@ abbrev pub called : (d : ApsDesk) (i : ℕ) → Call d.state (d.buffer i) → Ap
 called d i c = record {
   state = record { aps = d.state.aps; pairs = c.result.pairs };
   buffer = write d.buffer i c.last.1.1.0;
-  told = write d.told i (some (c.result.answer, told c.result.answer));
+  told = write d.told i (Some (c.result.answer, told c.result.answer));
 }
 
 -- calls for the frames in the listed buffers, in the list's order, lead from one desk to another
 pub data Calls : ApsDesk → List ℕ → ApsDesk → Type 0 where
-  none : {d : ApsDesk} → Calls d [] d
+  None : {d : ApsDesk} → Calls d [] d
   then : {d e : ApsDesk} (i : ℕ) (p : List ℕ) (c : Call d.state (d.buffer i)) → Calls (called d i c) p e → Calls d (i ∷ p) e

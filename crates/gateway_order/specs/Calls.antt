@@ -1,7 +1,7 @@
 -- A gateway that calls `nwk::open_nwk` for one frame after another, each in a buffer of its own. What a call returns and leaves is whatever its promise
 -- allows. `nwk-open-nwk-promise` is the `ensures` of the code: `nwk-open-nwk-says`, beside it in the crate `decided`, shows that.
 use Rattle.std.specs.Prelude.{◌≡◌, List, [], ◌∷◌, ℕ}
-use Rattle.std.proofs.Math.Option.{some}
+use Rattle.std.specs.Prelude.{Some}
 use contract.Lifetimes.{Lfts}
 use denote.Triple.Entry.{Args, Res}
 use denote.Triple.Clauses.{Lasts, at_exit}
@@ -37,10 +37,10 @@ abbrev pub called : (d : NwkDesk) (i : ℕ) → Call d.state (d.buffer i) → Nw
 called d i c = record {
   state = handed_on d.state (d.buffer i) c;
   buffer = write d.buffer i c.last.1.1.1.0;
-  told = write d.told i (some (c.result.answer, told c.result.answer));
+  told = write d.told i (Some (c.result.answer, told c.result.answer));
 }
 
 -- calls for the frames in the listed buffers, in the list's order, lead from one desk to another
 pub data Calls : NwkDesk → List ℕ → NwkDesk → Type 0 where
-  none : {d : NwkDesk} → Calls d [] d
+  None : {d : NwkDesk} → Calls d [] d
   then : {d e : NwkDesk} (i : ℕ) (p : List ℕ) (c : Call d.state (d.buffer i)) → Calls (called d i c) p e → Calls d (i ∷ p) e

@@ -1,7 +1,7 @@
 -- The two halves of an opening as the code has them: the judgement by what is held, and the commit where it opens. That they make up
 -- `open_nwk` is shown in proofs/.
 use Rattle.std.specs.Prelude.{Bool, true, false, cond, not, ◌||◌, List, ℕ, ◌+◌, eqb, ltb, length}
-use Rattle.std.proofs.Math.Option.{Option, none, some}
+use Rattle.std.specs.Prelude.{Option, None, Some}
 use Rattle.answer.specs.declared.Answer.{Answer}
 use Rattle.answer.specs.declared.Answer.TheVariants as answer
 use Rattle.answer.specs.declared.Outcome.{Outcome}
@@ -42,7 +42,7 @@ freshness s c = cond (not s.found) Done (cond (eqb c s.row.counter) (Refused Cou
 
 -- what is held, as the judgement reads it
 abbrev pub held_of : Standing → Option Cell
-held_of s = cond s.found (some (row_cell s.row)) none
+held_of s = cond s.found (Some (row_cell s.row)) None
 
 -- what a reaction tells, with room or without
 abbrev pub heard_from : Reaction Heard Cell → Bool → Heard

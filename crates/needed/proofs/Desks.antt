@@ -1,7 +1,8 @@
 -- Desks with the two frames of OnAir.antt, opened forth and back, and what they end with: computed. Assumes nothing.
 use Rattle.std.specs.Prelude.{◌≡◌, refl, ℕ}
 use Rattle.std.proofs.Common.{sym, ap, ◌∙◌, arith}
-use Rattle.std.proofs.Math.Option.{some, some-injective}
+use Rattle.std.specs.Prelude.{Some}
+use Rattle.std.proofs.lemmas.Option.{same_Some}
 use Rattle.answer.specs.declared.Answer.TheVariants.{Done, Refused}
 use Rattle.answer.specs.declared.Refusal.TheVariants.{CounterRepeated, TableFull}
 use Rattle.cells.specs.Lists.{any}
@@ -31,11 +32,11 @@ has-three = refl
 pub reordered : (active places : ℕ) → Reordered (names (start active places both)) forth back
 reordered active places = turned (names (start active places both)) apart
   where
-    apart : (k : Pair) → names (start active places both) 0 ≡ some k → names (start active places both) 1 ≡ some k → ⊥
+    apart : (k : Pair) → names (start active places both) 0 ≡ Some k → names (start active places both) 1 ≡ Some k → ⊥
     apart k e f =
-        let x : some (pair 2 sender) ≡ some k = rw (two-claims keys has-two) at e in
-        let y : some (pair 3 sender) ≡ some k = rw (three-claims keys has-three) at f in
-        let z : ◌≡◌ {A = ℕ} 2 3 = ap (λ (j : Pair). j.number) (some-injective (pair 2 sender) (pair 3 sender) (x ∙ sym y)) in
+        let x : Some (pair 2 sender) ≡ Some k = rw (two-claims keys has-two) at e in
+        let y : Some (pair 3 sender) ≡ Some k = rw (three-claims keys has-three) at f in
+        let z : ◌≡◌ {A = ℕ} 2 3 = ap (λ (j : Pair). j.number) (same_Some (pair 2 sender) (pair 3 sender) (x ∙ sym y)) in
         omega arith
 
 -- ---- what the desks end with

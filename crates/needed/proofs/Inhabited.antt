@@ -2,7 +2,7 @@
 -- frame opens twice' a list of frames that has all that is asked for. (For APS: crate `needed_aps`.) Assumes nothing.
 use Rattle.std.specs.Prelude.{◌≡◌, refl, true, List, [], ◌∷◌, ℕ}
 use mathlib.Core.List.Memᴰ.{head as here}
-use Rattle.std.proofs.Math.Option.{some-injective}
+use Rattle.std.proofs.lemmas.Option.{same_Some}
 use Rattle.std.proofs.Common.{le_refl, arith}
 use Rattle.laws.specs.Numbers.{field, value, bit}
 use Rattle.answer.specs.declared.Refusal.TheVariants.{CounterRepeated, CounterBehind}
@@ -128,6 +128,6 @@ unfolding find room has_row any
 nwk-hears = record {
   fit = refl;
   same_key = refl;
-  lower = λ held e. let n : 5 ≡ held = some-injective 5 held e in omega arith;
+  lower = λ held e. let n : 5 ≡ held = same_Some 5 held e in omega arith;
   has_room = refl;
 }

@@ -1,7 +1,7 @@
 -- NWK frames as they go on the air, without payload: what they claim, and that their tags are right, computed by AES and CCM as they
 -- are defined. Assumes nothing.
 use Rattle.std.specs.Prelude.{◌≡◌, refl, true, [], ◌∷◌, ℕ}
-use Rattle.std.proofs.Math.Option.{none, some}
+use Rattle.std.specs.Prelude.{None, Some}
 use Rattle.laws.specs.Octets.{same, ◌⊕◌}
 use Rattle.laws.specs.Blocks.{blocks, cut}
 use Rattle.laws.specs.Numbers.{low, field, value, bit}
@@ -46,7 +46,7 @@ unfolding nwk_who nwk_of nwk_length nwk_fixed auxiliary_at has_sender has_number
 claims-under n a b c d keys h = rw h
 
 pub opens-under : (n a b c d : ℕ) (keys : NetworkKeys) → Has keys n → (let frame = frame_under n (a ∷ b ∷ c ∷ d ∷ []) in
-    vouches key sender 5 8 22 frame ≡ true → nwk_judged keys (claim_under n) none frame ≡ opens_fresh frame)
+    vouches key sender 5 8 22 frame ≡ true → nwk_judged keys (claim_under n) None frame ≡ opens_fresh frame)
 unfolding nwk_judged
 opens-under n a b c d keys h v = rw (h, v)
 
@@ -56,13 +56,13 @@ two-claims = claims-under 2 _ _ _ _
 pub three-claims : (keys : NetworkKeys) → Has keys 3 → nwk_who keys under_three ≡ Claims (claim_under 3)
 three-claims = claims-under 3 _ _ _ _
 
-pub two-opens : (keys : NetworkKeys) → Has keys 2 → nwk_judged keys (claim_under 2) none under_two ≡ opens_fresh under_two
+pub two-opens : (keys : NetworkKeys) → Has keys 2 → nwk_judged keys (claim_under 2) None under_two ≡ opens_fresh under_two
 two-opens keys h = opens-under 2 _ _ _ _ keys h two-vouches
 
-pub three-opens : (keys : NetworkKeys) → Has keys 3 → nwk_judged keys (claim_under 3) none under_three ≡ opens_fresh under_three
+pub three-opens : (keys : NetworkKeys) → Has keys 3 → nwk_judged keys (claim_under 3) None under_three ≡ opens_fresh under_three
 three-opens keys h = opens-under 3 _ _ _ _ keys h three-vouches
 
 -- a second copy is refused
-pub two-again : (keys : NetworkKeys) → nwk_judged keys (claim_under 2) (some (counting 5)) under_two ≡ leave (refused CounterRepeated under_two)
+pub two-again : (keys : NetworkKeys) → nwk_judged keys (claim_under 2) (Some (counting 5)) under_two ≡ leave (refused CounterRepeated under_two)
 unfolding nwk_judged
 two-again keys = refl

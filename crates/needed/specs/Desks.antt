@@ -1,6 +1,6 @@
 -- Desks with the two frames of OnAir.antt, opened forth and back, and what they end with: computed. Assumes nothing.
 use Rattle.std.specs.Prelude.{cond, List, [], ◌∷◌, ℕ, eqb, replicate}
-use Rattle.std.proofs.Math.Option.{none}
+use Rattle.std.specs.Prelude.{None}
 use Rattle.nib.specs.declared.keys.NetworkKey.{NetworkKey}
 use Rattle.nib.specs.declared.keys.NetworkKeys.{NetworkKeys}
 use Rattle.nib.specs.Counters.{empty}
@@ -19,7 +19,7 @@ abbrev pub start : (active places : ℕ) → (ℕ → List ℕ) → NwkDesk
 start active places buffer = record {
   state = record { nwk = record { level = 5; own = 0; active = active; keys = keys }; rows = replicate places empty; used = 0 };
   buffer = buffer;
-  told = λ i. none;
+  told = λ i. None;
 }
 
 -- one frame of each key number; the same frame twice

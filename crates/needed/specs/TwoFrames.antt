@@ -8,7 +8,7 @@ use mathlib.Core.List.Memᴰ.{not-nil}
 use mathlib.Core.List.Memᴰ.{tail as there}
 use mathlib.Core.List.Sublistᴰ
 use mathlib.Core.List.{List, [], ◌∷◌, Memᴰ as Mem, Sublistᴰ as Sublist}
-use Rattle.std.proofs.Math.Option.{Option, none, some}
+use Rattle.std.specs.Prelude.{Option, None, Some}
 use Rattle.answer.specs.declared.Answer.{Answer}
 use Rattle.answer.specs.Numbers.{told}
 use Rattle.cells.specs.Lists.{Distinct, Before}
@@ -24,11 +24,11 @@ back = 1 ∷ 0 ∷ []
 
 -- what is told of an answer, and the number that was told
 abbrev pub saying : Answer → Option Said
-saying a = some (a, told a)
+saying a = Some (a, told a)
 
 abbrev pub said_number : Option Said → ℕ
-said_number none = 0
-said_number (some x) = x.1.number
+said_number None = 0
+said_number (Some x) = x.1.number
 
 -- ---- back is forth in another order
 
@@ -66,8 +66,8 @@ first i j d = at (Sublistᴰ.cases_cons-cons d)
     at (inr e) = (e.0, eq_of_singleton (part-mem e.1))
 
 -- if the two frames do not name the same
-pub turned : {K : Type 0} (names : ℕ → Option K) → ((k : K) → names 0 ≡ some k → names 1 ≡ some k → ⊥) → Reordered names forth back
+pub turned : {K : Type 0} (names : ℕ → Option K) → ((k : K) → names 0 ≡ Some k → names 1 ≡ Some k → ⊥) → Reordered names forth back
 turned {K} names apart = record { once = forth-once; once_after = back-once; none-lost = none-lost; none-added = none-added; order-kept = kept }
   where
-    kept : (i j : ℕ) (k : K) → names i ≡ some k → names j ≡ some k → Before i j forth → Before i j back
+    kept : (i j : ℕ) (k : K) → names i ≡ Some k → names j ≡ Some k → Before i j forth → Before i j back
     kept i j k e f d = let x = first i j d in absurd (apart k (rw x.0 at e) (rw x.1 at f))

@@ -1,7 +1,8 @@
 -- Desks with the two frames of OnAir.antt, opened forth and back, and what they end with: computed. Assumes nothing.
 use Rattle.std.specs.Prelude.{◌≡◌, ℕ}
 use Rattle.std.proofs.Common.{sym, ◌∙◌, arith}
-use Rattle.std.proofs.Math.Option.{some, some-injective}
+use Rattle.std.specs.Prelude.{Some}
+use Rattle.std.proofs.lemmas.Option.{same_Some}
 use Rattle.answer.specs.declared.Answer.TheVariants.{Done, Refused}
 use Rattle.answer.specs.declared.Refusal.TheVariants.{CounterRepeated, TableFull}
 use Rattle.cells.specs.Lists.{any}
@@ -19,11 +20,11 @@ use Rattle.needed_aps.specs.Desks.{start, both, copies}
 pub reordered : (used : ℕ) → Reordered (names (start used both)) forth back
 reordered used = turned (names (start used both)) apart
   where
-    apart : (k : ℕ) → names (start used both) 0 ≡ some k → names (start used both) 1 ≡ some k → ⊥
+    apart : (k : ℕ) → names (start used both) 0 ≡ Some k → names (start used both) 1 ≡ Some k → ⊥
     apart k e f =
-        let x : some one ≡ some k = rw one-claims at e in
-        let y : some other ≡ some k = rw other-claims at f in
-        let z : one ≡ other = some-injective one other (x ∙ sym y) in
+        let x : Some one ≡ Some k = rw one-claims at e in
+        let y : Some other ≡ Some k = rw other-claims at f in
+        let z : one ≡ other = same_Some one other (x ∙ sym y) in
         omega arith
 
 -- ---- what the desks end with

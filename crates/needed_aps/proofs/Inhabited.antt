@@ -1,7 +1,7 @@
 -- THE HYPOTHESES CAN BE MET. As in `needed`, for what the theorems over APS ask for. Assumes nothing.
 use Rattle.std.specs.Prelude.{◌≡◌, refl, List, [], ◌∷◌, ℕ, replicate}
 use Rattle.std.proofs.Common.{ap, le_refl, arith}
-use Rattle.std.proofs.Math.Option.{some-injective}
+use Rattle.std.proofs.lemmas.Option.{same_Some}
 use Rattle.laws.specs.Numbers.{field, value, bit}
 use Rattle.answer.specs.declared.Refusal.TheVariants.{CounterRepeated, CounterBehind}
 use Rattle.cells.specs.Lists.{any}
@@ -69,6 +69,6 @@ unfolding find room has_row any
 aps-hears = record {
   fit = refl;
   same_key = refl;
-  lower = λ p e. let n : 5 ≡ p.incoming = ap (λ (q : PairCell). q.incoming) (some-injective (new_pair 5) p e) in omega arith;
+  lower = λ p e. let n : 5 ≡ p.incoming = ap (λ (q : PairCell). q.incoming) (same_Some (new_pair 5) p e) in omega arith;
   has_room = refl;
 }

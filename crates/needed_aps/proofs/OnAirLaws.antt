@@ -1,7 +1,7 @@
 -- Two APS frames as they go on the air, commands without payload under the trust centre link key: what they claim, and that their tags are right,
 -- computed by AES and CCM as they are defined. Assumes nothing.
 use Rattle.std.specs.Prelude.{◌≡◌, refl, true}
-use Rattle.std.proofs.Math.Option.{none, some}
+use Rattle.std.specs.Prelude.{None, Some}
 use Rattle.laws.specs.Octets.{same, ◌⊕◌}
 use Rattle.laws.specs.Blocks.{blocks, cut}
 use Rattle.laws.specs.Numbers.{low, field, value, bit}
@@ -41,15 +41,15 @@ pub other-claims : aps_who from_other ≡ Claims (claim_from other)
 unfolding aps_who aps_of aps_taken aps_length auxiliary_at has_sender has_number identifier_of field value bit
 other-claims = refl
 
-pub one-opens : aps_judged (claim_from one) none from_one ≡ opens_new one from_one
+pub one-opens : aps_judged (claim_from one) None from_one ≡ opens_new one from_one
 unfolding aps_judged key_for identifier_of
 one-opens = rw one-vouches
 
-pub other-opens : aps_judged (claim_from other) none from_other ≡ opens_new other from_other
+pub other-opens : aps_judged (claim_from other) None from_other ≡ opens_new other from_other
 unfolding aps_judged key_for identifier_of
 other-opens = rw other-vouches
 
 -- a second copy is refused
-pub one_again : aps_judged (claim_from one) (some (new_pair 5)) from_one ≡ leave (refused CounterRepeated from_one)
+pub one_again : aps_judged (claim_from one) (Some (new_pair 5)) from_one ≡ leave (refused CounterRepeated from_one)
 unfolding aps_judged
 one_again = refl

@@ -1,6 +1,6 @@
 -- Desks with the two frames of OnAir.antt, opened forth and back, and what they end with: computed. Assumes nothing.
 use Rattle.std.specs.Prelude.{cond, List, [], ◌∷◌, ℕ, eqb}
-use Rattle.std.proofs.Math.Option.{none}
+use Rattle.std.specs.Prelude.{None}
 use Rattle.aib.specs.declared.pairs.PairRow.{PairRow}
 use Rattle.aib.specs.Pairs.{new_row}
 use Rattle.order.specs.Aps.{ApsDesk}
@@ -17,7 +17,7 @@ abbrev pub start : ℕ → (ℕ → List ℕ) → ApsDesk
 start used buffer = record {
   state = record { aps = record { level = 5; own = 0 }; pairs = record { rows = others; used = used } };
   buffer = buffer;
-  told = λ i. none;
+  told = λ i. None;
 }
 
 -- one frame of each sender; the same frame twice

@@ -1,7 +1,7 @@
 -- The counters heard (document 01, 'The state' and 'Called alone'): a table of rows, each for a key number and a sender. The
 -- rows are lent, and the first `used` of them are in use.
 use Rattle.std.specs.Prelude.{ℕ, ◌-◌, min, Bool, true, false, cond, not, List, ◌++◌, length, take, drop, replicate, ◌==◌, nat_lt, refl}
-use Rattle.std.proofs.Math.Option.{Option, none, some}
+use Rattle.std.specs.Prelude.{Option, None, Some}
 use Rattle.answer.specs.declared.Outcome.{Outcome}
 use Rattle.answer.specs.declared.Outcome.TheVariants.{Done, Refused}
 use Rattle.answer.specs.declared.Refusal.{Refusal}
@@ -27,8 +27,8 @@ counting n = record { counter = n }
 
 -- the counter that is held, if there is a cell
 abbrev pub counter_in : Option Cell → Option ℕ
-counter_in none = none
-counter_in (some c) = some c.counter
+counter_in None = None
+counter_in (Some c) = Some c.counter
 
 abbrev pub row_of : Pair → Cell → CounterRow
 row_of k c = record { number = k.number; sender = k.sender; counter = c.counter }
@@ -68,12 +68,12 @@ empty = record { number = 0; sender = 0; counter = 0 }
 
 -- the row that is found, or zeros
 abbrev pub standing : Bool → Pair → Option Cell → Standing
-standing room k none = record { room = room; found = false; row = empty }
-standing room k (some c) = record { room = room; found = true; row = row_of k c }
+standing room k None = record { room = room; found = false; row = empty }
+standing room k (Some c) = record { room = room; found = true; row = row_of k c }
 
 unfoldable pub held_for : List CounterRow → ℕ → Pair → Standing
 held_for rows used k =
-    cond (overfull rows used) (standing false k none)
+    cond (overfull rows used) (standing false k None)
     (standing (room counter_rows (capacity (length rows)) (take used rows) k) k (find counter_rows (take used rows) k))
 
 -- ---- what a call leaves: its outcome, the count in use, and all rows that were lent

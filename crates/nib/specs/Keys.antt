@@ -1,6 +1,6 @@
 -- The network keys (document 01, 'The state'): a table of rows, each with a number and a key.
 use Rattle.std.specs.Prelude.{ℕ, true, false, eqb, List, take, replicate, refl}
-use Rattle.std.proofs.Math.Option.{Option, none, some}
+use Rattle.std.specs.Prelude.{Option, None, Some}
 use Rattle.std.proofs.Common.{eq-eqb, eqb-true}
 use Rattle.cells.specs.Rows.{Rows, find}
 use Rattle.nib.specs.declared.keys.NetworkKey.{NetworkKey}
@@ -29,8 +29,8 @@ none_found = key_row 0 (replicate 16 0)
 
 -- what a search answers: the row, or a row of zeros
 abbrev pub answered : ℕ → Option (List ℕ) → KeyFound
-answered n none = record { found = false; row = none_found }
-answered n (some k) = record { found = true; row = key_row n k }
+answered n None = record { found = false; row = none_found }
+answered n (Some k) = record { found = true; row = key_row n k }
 
 -- the first row of that number among those in use
 unfoldable pub key_found : NetworkKeys → ℕ → KeyFound

@@ -1,7 +1,8 @@
 -- No APS frame opens twice: the proof. Assumes nothing.
 use Rattle.std.specs.Prelude.{◌≡◌, refl, Bool, true, false, cond, not, List, ℕ, ◌+◌, ◌≤◌, ltb, length, drop}
 use Rattle.std.proofs.Common.{sym, ap, ◌∙◌, le_trans, arith, length-take, eq-eqb, ne_eqb, lt-ltb}
-use Rattle.std.proofs.Math.Option.{Option, none, some, some-injective, none-ne-some}
+use Rattle.std.specs.Prelude.{Option, None, Some}
+use Rattle.std.proofs.lemmas.Option.{none-some, same_Some}
 use Rattle.std.proofs.Math.Seq.{take-append_seam}
 use Rattle.answer.specs.declared.Refusal.TheVariants.{Unsupported, CounterRepeated, CounterBehind}
 use Rattle.cells.specs.First.{at_first}
@@ -34,8 +35,8 @@ use Rattle.order.proofs.ApsOrder.{machine}
 use Rattle.order.proofs.ApsPlaced as taken
 
 heard-counter : (held : Option PairCell) (n : ℕ) → (heard held n).incoming ≡ n
-heard-counter none n = refl
-heard-counter (some p) n = refl
+heard-counter None n = refl
+heard-counter (Some p) n = refl
 
 rising : (c : Claim) (held : Option PairCell) (b : List ℕ) → Rising (λ p. p.incoming) opens c.counter held (aps_judged c held b)
 unfolding aps_judged
@@ -48,9 +49,9 @@ rising c held b =
     (either S (not (vouches _ _ _ _ _ b)) (stops _ refl)
     (rises _ _ _ (heard-counter held c.counter) (λ p q. not-above (incoming held) c.counter t p.incoming (ap incoming q)) refl)))))
 
-reacts : (b : List ℕ) (w : Who) (k : ℕ) → sender_of w ≡ some k → (held : Option PairCell) → Rising (λ p. p.incoming) opens (counter_of w) held (reaction b w held)
+reacts : (b : List ℕ) (w : Who) (k : ℕ) → sender_of w ≡ Some k → (held : Option PairCell) → Rising (λ p. p.incoming) opens (counter_of w) held (reaction b w held)
 unfolding reaction
-reacts b (Told a) k e held = absurd (none-ne-some k e)
+reacts b (Told a) k e held = absurd (none-some k e)
 reacts b (Claims c) k e held = rising c held b
 
 opens-good : (g : Gateway) (b : List ℕ) → opens (answer g b) ≡ true → Good g
@@ -63,7 +64,7 @@ opens-good g b = at (aps_unfit g.aps g.pairs) refl
     at true e f = clash false f refl
     at false e f = taken-good g e
 
-stale : (g : Gateway) → Good g → (b : List ℕ) (c : Claim) → aps_who b ≡ Claims c → (p : PairCell) → held_pair g c.sender ≡ some p → c.counter ≤ p.incoming
+stale : (g : Gateway) → Good g → (b : List ℕ) (c : Claim) → aps_who b ≡ Claims c → (p : PairCell) → held_pair g c.sender ≡ Some p → c.counter ≤ p.incoming
     → Stale (incoming (held_pair g c.sender)) c.counter CounterRepeated CounterBehind b (answer g b)
 unfolding aps_placed aps_judged settle
 stale g good b c claims p holds low = record {
@@ -89,13 +90,13 @@ raised-holds g device sender h p =
       least = rw (take-append_seam after (drop (length after) g.pairs.rows)) (at (find pair_rows after sender) refl);
     }
   where
-    same : incoming (find pair_rows (at_first (may_use device) raised (in_use g.pairs)) sender) ≡ some p.least.cell.incoming
+    same : incoming (find pair_rows (at_first (may_use device) raised (in_use g.pairs)) sender) ≡ Some p.least.cell.incoming
     same = raising-incoming device sender (in_use g.pairs) ∙ ap incoming p.least.is
 
     at : (o : Option PairCell) → find pair_rows (at_first (may_use device) raised (in_use g.pairs)) sender ≡ o
         → AtLeast (λ (p : PairCell). p.incoming) opens h o
-    at none e = absurd (none-ne-some _ (sym (ap incoming e) ∙ same))
-    at (some q) e = let n : q.incoming ≡ p.least.cell.incoming = some-injective _ _ (sym (ap incoming e) ∙ same) in record { cell = q; is = refl; up = omega (arith, p.least.up) }
+    at None e = absurd (none-some _ (sym (ap incoming e) ∙ same))
+    at (Some q) e = let n : q.incoming ≡ p.least.cell.incoming = same_Some _ _ (sym (ap incoming e) ∙ same) in record { cell = q; is = refl; up = omega (arith, p.least.up) }
 
 keeps : (sender h : ℕ) (g : Gateway) (f : Step) → Holds sender h g → Holds sender h (after_step g f)
 unfolding machine

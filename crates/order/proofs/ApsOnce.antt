@@ -1,7 +1,8 @@
 -- The outgoing counter of a pair row through any calls of APS: it never falls, and rises above what was used. Assumes nothing.
 use Rattle.std.specs.Prelude.{◌≡◌, refl, Bool, true, false, cond, List, ℕ, ◌≤◌, ◌<◌, ◌^◌, eqb, length, drop, get_or}
 use Rattle.std.proofs.Common.{sym, ap, ◌∙◌, arith, eqb-true}
-use Rattle.std.proofs.Math.Option.{Option, none, some, none-ne-some}
+use Rattle.std.specs.Prelude.{Option, None, Some}
+use Rattle.std.proofs.lemmas.Option.{none-some}
 use Rattle.std.proofs.Math.Seq.{take-append_seam}
 use Rattle.std.proofs.lemmas.Bool.{eqb-false}
 use Rattle.laws.specs.Numbers.{field}
@@ -33,23 +34,23 @@ module _ {A : Type 0} (to : ℕ) (pairs : Pairs) (device : ℕ) (it : A) where
 
   -- what a call for `device` does to the row for `to`
   abbrev MovesTo : Pairs → Option A → Type 0
-  MovesTo after used = Moves before (outgoing_in (first (may_use to) (in_use after))) (cond (eqb device to) used none) it
+  MovesTo after used = Moves before (outgoing_in (first (may_use to) (in_use after))) (cond (eqb device to) used None) it
 
-  pub unmoved : MovesTo pairs none
+  pub unmoved : MovesTo pairs None
   unmoved = either (λ (o : Option A). Moves before before o it) (eqb device to) (stays before it) (stays before it)
 
-  pub moved : (row : PairRow) → first (may_use device) (in_use pairs) ≡ some row → eqb row.outgoing spent ≡ false
-      → MovesTo (holding (at_first (may_use device) raised (in_use pairs)) pairs) (some it)
+  pub moved : (row : PairRow) → first (may_use device) (in_use pairs) ≡ Some row → eqb row.outgoing spent ≡ false
+      → MovesTo (holding (at_first (may_use device) raised (in_use pairs)) pairs) (Some it)
   moved row found usable = rw (take-append_seam after (drop (length after) pairs.rows)) (at (eqb device to) refl)
     where
       after : List PairRow
       after = at_first (may_use device) raised (in_use pairs)
 
-      at : (t : Bool) → eqb device to ≡ t → Moves before (outgoing_in (first (may_use to) after)) (cond t (some it) none) it
+      at : (t : Bool) → eqb device to ≡ t → Moves before (outgoing_in (first (may_use to) after)) (cond t (Some it) None) it
       at true e =
           let same : device ≡ to = eqb-true device to e in
-          let was : first (may_use to) (in_use pairs) ≡ some row = rw same at found in
-          let now : first (may_use to) after ≡ some (raised row) = rw (ap (λ (d : ℕ). first (may_use d) after) (sym same)) (raising-own device (in_use pairs) row found) in
+          let was : first (may_use to) (in_use pairs) ≡ Some row = rw same at found in
+          let now : first (may_use to) after ≡ Some (raised row) = rw (ap (λ (d : ℕ). first (may_use d) after) (sym same)) (raising-own device (in_use pairs) row found) in
           rw (was, now) (rises row.outgoing it (eqb-false row.outgoing spent usable))
       at false e = rw (raising-other device to e (in_use pairs)) (stays before it)
 
@@ -64,9 +65,9 @@ module _ (to device : ℕ) (g : Gateway) where
   MovesBy x = MovesTo to g.pairs device (outgoing_to to g) x.pairs (if_taken x.outcome x.counter)
 
   -- what is handed out is the counter of the row for `to`, if that is the device
-  handed : (row : PairRow) → first (may_use device) (in_use g.pairs) ≡ some row → (t : Bool) → eqb device to ≡ t
-      → ◌≡◌ {A = Option ℕ} (cond t (some (outgoing_to to g)) none) (cond t (some row.outgoing) none)
-  handed row found true e = ap (λ (r : Option PairRow). some (outgoing_in r)) (ap (λ (d : ℕ). first (may_use d) (in_use g.pairs)) (sym (eqb-true device to e)) ∙ found)
+  handed : (row : PairRow) → first (may_use device) (in_use g.pairs) ≡ Some row → (t : Bool) → eqb device to ≡ t
+      → ◌≡◌ {A = Option ℕ} (cond t (Some (outgoing_to to g)) None) (cond t (Some row.outgoing) None)
+  handed row found true e = ap (λ (r : Option PairRow). Some (outgoing_in r)) (ap (λ (d : ℕ). first (may_use d) (in_use g.pairs)) (sym (eqb-true device to e)) ∙ found)
   handed row found false e = refl
 
   advanced-moves : {x : Advanced} → aps.Advances g.pairs device x → MovesBy x
@@ -90,11 +91,11 @@ pub nonces-once : (to : ℕ) (g : Gateway) (steps : List Step) → outgoing_to t
 nonces-once to g steps small =
     used-once (nonce_used to) after_step (λ n. field n 8 4) (outgoing_to to) (λ g. outgoing_to to g < 2 ^ 32) (λ g f. (counter-moves to g f).fits) (λ g f h. (counter-moves to g f).up) lifts g steps small
   where
-    lifts : (g : Gateway) (f : Step) (x : List ℕ) → outgoing_to to g < 2 ^ 32 → nonce_used to g f ≡ some x → (outgoing_to to g ≤ field x 8 4) × (field x 8 4 < outgoing_to to (after_step g f))
-    lifts g (opening frame) x h e = absurd (none-ne-some x e)
+    lifts : (g : Gateway) (f : Step) (x : List ℕ) → outgoing_to to g < 2 ^ 32 → nonce_used to g f ≡ Some x → (outgoing_to to g ≤ field x 8 4) × (field x 8 4 < outgoing_to to (after_step g f))
+    lifts g (opening frame) x h e = absurd (none-some x e)
     lifts g (securing device extended plain out) x h e =
         let m = secured-moves to _ g device extended plain out (aps.securing g.aps g.pairs device extended plain out) in
         let u = m.uses x e in
         let n : field x 8 4 ≡ outgoing_to to g = ap (λ (y : List ℕ). field y 8 4) (sym u.0) ∙ counter-in g.aps.own (outgoing_to to g) (control_of (identifier_for plain (aps_length (get_or plain 0 0)))) h in
         (omega arith, omega (arith, u.1))
-    lifts g (advancing device) x h e = absurd (none-ne-some x e)
+    lifts g (advancing device) x h e = absurd (none-some x e)

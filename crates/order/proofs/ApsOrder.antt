@@ -3,7 +3,7 @@
 use Rattle.std.specs.Prelude.{◌≡◌, Bool, true, false, List, ℕ, ◌+◌, ◌≤◌, length}
 use Rattle.std.proofs.Math.Path.{refl}
 use Rattle.std.proofs.Common.{ap, ◌∙◌, arith}
-use Rattle.std.proofs.Math.Option.{none}
+use Rattle.std.specs.Prelude.{None}
 use Rattle.std.proofs.Math.ListN.{length-take}
 use Rattle.cells.specs.Rows.{reply_of}
 use Rattle.cells.specs.Machine.{Machine}
@@ -31,7 +31,7 @@ machine = record {
   places = 16;
   names = λ b. sender_of (aps_who b);
   react = λ b. reaction b (aps_who b);
-  idle = λ b. reply_of (reaction b (aps_who b) none);
+  idle = λ b. reply_of (reaction b (aps_who b) None);
   Good = Good;
   stays-good = stays-good;
   named = λ g b k h n. ap settled (opening g b h) ∙ named-placed g b h k (aps_who b) n;

@@ -1,8 +1,9 @@
 -- An opening of an APS frame: what it does to the row of the sender that the frame names. Assumes nothing.
 use Rattle.std.specs.Prelude.{◌≡◌, false, not, List, ℕ, ◌≤◌, length, drop, eqb}
-use Rattle.std.proofs.Math.Path.{refl}
+use Rattle.std.proofs.Math.Path.{refl, sym}
 use Rattle.std.proofs.Common.{arith}
-use Rattle.std.proofs.Math.Option.{none, some, some-injective, none-ne-some, some-ne-none}
+use Rattle.std.specs.Prelude.{None, Some}
+use Rattle.std.proofs.lemmas.Option.{none-some, same_Some}
 use Rattle.std.proofs.Math.ListN.{length-take}
 use Rattle.std.proofs.Math.Seq.{take-append_seam}
 use borrow.Author.Tests.{eq-eqb, eqb-true, le-ltb, ltb-false}
@@ -32,19 +33,19 @@ module _ (g : Gateway) (b : List ℕ) (h : Good g) where
   opening = rw (eq-eqb g.aps.level 5 h.level, le-ltb 16 g.pairs.used h.fits)
 
   -- a frame that names k reacts to k's row, and the rows in use become what `settle` says
-  pub named-placed : (k : ℕ) (w : Who) → sender_of w ≡ some k
+  pub named-placed : (k : ℕ) (w : Who) → sender_of w ≡ Some k
       → settled (aps_placed g.pairs b w) ≡ settle pair_rows 16 (in_use g.pairs) k (reaction b w (find pair_rows (in_use g.pairs) k))
   unfolding aps_placed reaction
-  named-placed k (Told a) e = absurd (none-ne-some k e)
+  named-placed k (Told a) e = absurd (none-some k e)
   named-placed k (Claims c) e =
       let t = settle pair_rows 16 (in_use g.pairs) c.sender (aps_judged c (find pair_rows (in_use g.pairs) c.sender) b) in
-      rw (← some-injective c.sender k e) (λ i. record { out = t.out; rows = take-append_seam t.rows (drop (length t.rows) g.pairs.rows) i })
+      rw (← same_Some c.sender k e) (λ i. record { out = t.out; rows = take-append_seam t.rows (drop (length t.rows) g.pairs.rows) i })
 
   -- a frame that names none changes nothing
-  pub nameless-placed : (w : Who) → sender_of w ≡ none → settled (aps_placed g.pairs b w) ≡ record { out = reply_of (reaction b w none); rows = in_use g.pairs }
+  pub nameless-placed : (w : Who) → sender_of w ≡ None → settled (aps_placed g.pairs b w) ≡ record { out = reply_of (reaction b w None); rows = in_use g.pairs }
   unfolding aps_placed reaction reply_of
   nameless-placed (Told a) e = refl
-  nameless-placed (Claims c) e = absurd (some-ne-none c.sender e)
+  nameless-placed (Claims c) e = absurd (none-some c.sender (sym e))
 
   -- not too many rows are in use after an opening
   stays-placed : (w : Who) → (aps_placed g.pairs b w).pairs.used ≤ 16

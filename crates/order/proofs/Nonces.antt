@@ -4,7 +4,7 @@
 -- proofs/Reuse.antt. Assumes nothing.
 use Rattle.std.specs.Prelude.{◌≡◌, refl, Bool, List, ◌++◌, ℕ, ◌≤◌, ◌<◌, ◌^◌, length, take, get_or}
 use Rattle.std.proofs.Common.{sym, ap, ◌∙◌, arith, length-take-le}
-use Rattle.std.proofs.Math.Option.{Option}
+use Rattle.std.specs.Prelude.{Option}
 use Rattle.std.proofs.lemmas.List.{get_or_at}
 use Rattle.answer.specs.declared.Answer.TheVariants.{Done}
 use Rattle.cells.specs.Lists.{Distinct}

@@ -9,7 +9,8 @@ use mathlib.Core.List.Memᴰ
 use mathlib.Core.List.Memᴰ.{head as here}
 use mathlib.Core.List.Memᴰ.{tail as there}
 use mathlib.Core.List.{List, [], ◌∷◌, map, Memᴰ as Mem}
-use Rattle.std.proofs.Math.Option.{Option, none, some, none-ne-some, some-injective}
+use Rattle.std.specs.Prelude.{Option, None, Some}
+use Rattle.std.proofs.lemmas.Option.{none-some, same_Some}
 use Prim.Native.Nat.{ℕ, ◌≤◌}
 use Rattle.std.proofs.lemmas.List.{length-map}
 use Rattle.answer.specs.declared.Answer.{Answer}
@@ -57,13 +58,13 @@ no_third l two a p q r = at (two-of-three l two a (next a) (next (next a)) p q r
 -- ---- a frame that names a pair names a key
 
 -- a number that is found is one of the keys'
-found_number : (rs : List NetworkKey) (n : ℕ) (key : List ℕ) → find key_rows rs n ≡ some key → Mem n (map (λ (r : NetworkKey). r.number) rs)
+found_number : (rs : List NetworkKey) (n : ℕ) (key : List ℕ) → find key_rows rs n ≡ Some key → Mem n (map (λ (r : NetworkKey). r.number) rs)
 unfolding find
-found_number [] n key e = absurd (none-ne-some key e)
+found_number [] n key e = absurd (none-some key e)
 found_number (r ∷ rs) n key e = at (eqb r.number n) refl e (found_number rs n key)
   where
-    at : (t : Bool) → eqb r.number n ≡ t → cond t (some r.key) (find key_rows rs n) ≡ some key
-        → (find key_rows rs n ≡ some key → Mem n (map (λ (x : NetworkKey). x.number) rs)) → Mem n (r.number ∷ map (λ (x : NetworkKey). x.number) rs)
+    at : (t : Bool) → eqb r.number n ≡ t → cond t (Some r.key) (find key_rows rs n) ≡ Some key
+        → (find key_rows rs n ≡ Some key → Mem n (map (λ (x : NetworkKey). x.number) rs)) → Mem n (r.number ∷ map (λ (x : NetworkKey). x.number) rs)
     at true q f ih = here (sym (eqb-true r.number n q))
     at false q f ih = there (ih f)
 
@@ -72,15 +73,15 @@ unfolding key_found
 key-number keys n e = at (find key_rows (take keys.used keys.rows) n) refl e
   where
     at : (o : Option (List ℕ)) → find key_rows (take keys.used keys.rows) n ≡ o → (answered n o).found ≡ true → Mem n (numbers keys)
-    at none q f = clash false f refl
-    at (some key) q f = found_number (take keys.used keys.rows) n key q
+    at None q f = clash false f refl
+    at (Some key) q f = found_number (take keys.used keys.rows) n key q
 
 module _ (keys : NetworkKeys) (b : List ℕ) (k : Pair) where
   abbrev Named : Who → Type 0
-  Named w = pair_of w ≡ some k → Mem k.number (numbers keys)
+  Named w = pair_of w ≡ Some k → Mem k.number (numbers keys)
 
-  none_named : none ≡ some k → Mem k.number (numbers keys)
-  none_named e = absurd (none-ne-some k e)
+  none_named : None ≡ Some k → Mem k.number (numbers keys)
+  none_named e = absurd (none-some k e)
 
   pub named-key : Named (nwk_who keys b)
   unfolding nwk_who
@@ -92,7 +93,7 @@ module _ (keys : NetworkKeys) (b : List ℕ) (k : Pair) where
         where
           by_key : (t : Bool) → (key_found keys (number_of a.key)).found ≡ t → Named (cond (not t) (refuse NoNetworkKey) (claimed a s at))
           by_key false q = none_named
-          by_key true q = λ e. Memᴰ.cast (ap (λ (x : Pair). x.number) (sym (some-injective (pair (number_of a.key) s) k e))) (key-number keys (number_of a.key) q)
+          by_key true q = λ e. Memᴰ.cast (ap (λ (x : Pair). x.number) (sym (same_Some (pair (number_of a.key) s) k e))) (key-number keys (number_of a.key) q)
 
       by-auxiliary : (at : ℕ) (r : AuxiliaryRead) → Named (nwk_auxiliary keys at r)
       by-auxiliary at auxiliary.Cut = none_named
@@ -104,13 +105,13 @@ module _ (keys : NetworkKeys) (b : List ℕ) (k : Pair) where
 
 -- ---- one frame
 
-pub opens-named : (n : ℕ) (o : Option Pair) (a : Answer) → opens_under n o a ≡ true → (k : Pair) × (o ≡ some k) × (k.number ≡ n)
-opens-named n none a e = clash false e refl
-opens-named n (some k) (Done start len) e = (k, refl, eqb-true k.number n e)
-opens-named n (some k) (Plain start len) e = clash false e refl
-opens-named n (some k) (Refused why) e = clash false e refl
+pub opens-named : (n : ℕ) (o : Option Pair) (a : Answer) → opens_under n o a ≡ true → (k : Pair) × (o ≡ Some k) × (k.number ≡ n)
+opens-named n None a e = clash false e refl
+opens-named n (Some k) (Done start len) e = (k, refl, eqb-true k.number n e)
+opens-named n (Some k) (Plain start len) e = clash false e refl
+opens-named n (Some k) (Refused why) e = clash false e refl
 
-turned-once : (a : ℕ) (k : Pair) (x : Answer) → active_after a k.number x ≡ cond (opens_under (next a) (some k) x) (next a) a
+turned-once : (a : ℕ) (k : Pair) (x : Answer) → active_after a k.number x ≡ cond (opens_under (next a) (Some k) x) (next a) a
 unfolding turn
 turned-once a k (Done start len) = at (eqb k.number (next a)) refl
   where

@@ -1,7 +1,8 @@
 -- No NWK frame opens twice: the proof. Assumes nothing.
 use Rattle.std.specs.Prelude.{◌≡◌, refl, Bool, true, false, cond, not, List, ℕ, ◌+◌, ◌≤◌, ltb, length}
 use Rattle.std.proofs.Common.{ap, ◌∙◌, le_trans, arith, eq-eqb, ne_eqb, lt-ltb}
-use Rattle.std.proofs.Math.Option.{Option, some, none-ne-some}
+use Rattle.std.specs.Prelude.{Option, Some}
+use Rattle.std.proofs.lemmas.Option.{none-some}
 use Rattle.answer.specs.declared.Refusal.TheVariants.{Unsupported, CounterRepeated, CounterBehind}
 use Rattle.cells.specs.ListLaws.{clash, either, which}
 use Rattle.cells.specs.Rows.{Reaction, settle}
@@ -37,9 +38,9 @@ rising keys c held b =
     (either S (not (vouches _ _ _ _ _ b)) (stops _ refl) (rises _ _ _ refl (λ d q. not-above (counter_in held) c.counter t d.counter (ap counter_in q)) refl))))
 
 module _ (keys : NetworkKeys) (b : List ℕ) where
-  reacts : (w : Who) (k : Pair) → pair_of w ≡ some k → (held : Option Cell) → Rising (λ n. n.counter) opens (counter_of w) held (reaction keys b w held)
+  reacts : (w : Who) (k : Pair) → pair_of w ≡ Some k → (held : Option Cell) → Rising (λ n. n.counter) opens (counter_of w) held (reaction keys b w held)
   unfolding reaction
-  reacts (Told a) k e held = absurd (none-ne-some k e)
+  reacts (Told a) k e held = absurd (none-some k e)
   reacts (Claims c) k e held = rising keys c held b
 
 -- a state in which a frame opens is one that is taken
@@ -55,7 +56,7 @@ opens-good g b = at (nwk_unfit g.nwk g.rows g.used) refl
 
 -- a frame that is not above what is held is refused, 33 or 34
 stale : (keys : NetworkKeys) (lent : ℕ) → keys.used ≤ 2 → (g : Gateway) → Good keys lent g → (b : List ℕ) (c : Claim) → nwk_who keys b ≡ Claims c
-    → (h : ℕ) → held_counter g (claimed_pair c) ≡ some h → c.counter ≤ h
+    → (h : ℕ) → held_counter g (claimed_pair c) ≡ Some h → c.counter ≤ h
     → Stale (held_counter g (claimed_pair c)) c.counter CounterRepeated CounterBehind b (answer g b)
 unfolding nwk_placed nwk_judged settle
 stale keys lent two g good b c claims h holds low = record {

@@ -1,8 +1,9 @@
 -- An opening of an NWK frame, for the machine of NwkRun.antt: what it does to the row of the pair that the frame names. Assumes nothing.
 use Rattle.std.specs.Prelude.{◌≡◌, false, not, List, ℕ, ◌≤◌, length, eqb, ltb}
-use Rattle.std.proofs.Math.Path.{refl}
+use Rattle.std.proofs.Math.Path.{refl, sym}
 use Rattle.std.proofs.Common.{arith, length-append, length-drop}
-use Rattle.std.proofs.Math.Option.{none, some, some-injective, none-ne-some, some-ne-none}
+use Rattle.std.specs.Prelude.{None, Some}
+use Rattle.std.proofs.lemmas.Option.{none-some, same_Some}
 use Rattle.std.proofs.Math.ListN.{length-take}
 use borrow.Author.Tests.{eq-eqb, eqb-true, le-ltb, ltb-false}
 use Rattle.cells.specs.ListLaws.{neither, nor, not-not}
@@ -40,21 +41,21 @@ module _ (keys : NetworkKeys) (lent : ℕ) (two : keys.used ≤ 2) where
       rw (eq-eqb g.nwk.level 5 h.level, h.same_keys, le-ltb 2 keys.used two, h.same-lent, le-ltb (capacity lent) g.used h.fits)
 
   -- a frame that names k reacts to k's row, and the rows in use become what `settle` says
-  pub named-placed : (g : Gateway) (b : List ℕ) (k : Pair) → Good keys lent g → (w : Who) → pair_of w ≡ some k
+  pub named-placed : (g : Gateway) (b : List ℕ) (k : Pair) → Good keys lent g → (w : Who) → pair_of w ≡ Some k
       → settled (nwk_placed g.nwk g.rows g.used b w)
       ≡ settle counter_rows (capacity lent) (rows_in_use g) k (reaction keys b w (find counter_rows (rows_in_use g) k))
   unfolding nwk_placed reaction
-  named-placed g b k h (Told a) e = absurd (none-ne-some k e)
+  named-placed g b k h (Told a) e = absurd (none-some k e)
   named-placed g b k h (Claims c) e =
       let t = settle counter_rows (capacity lent) (rows_in_use g) (claimed_pair c) (nwk_judged keys c (find counter_rows (rows_in_use g) (claimed_pair c)) b) in
-      rw (← some-injective (claimed_pair c) k e, h.same_keys, h.same-lent) (λ i. record { out = t.out; rows = over-used t.rows g.rows i })
+      rw (← same_Some (claimed_pair c) k e, h.same_keys, h.same-lent) (λ i. record { out = t.out; rows = over-used t.rows g.rows i })
 
   -- a frame that names none changes nothing
-  pub nameless-placed : (g : Gateway) (b : List ℕ) (w : Who) → pair_of w ≡ none
-      → settled (nwk_placed g.nwk g.rows g.used b w) ≡ record { out = reply_of (reaction keys b w none); rows = rows_in_use g }
+  pub nameless-placed : (g : Gateway) (b : List ℕ) (w : Who) → pair_of w ≡ None
+      → settled (nwk_placed g.nwk g.rows g.used b w) ≡ record { out = reply_of (reaction keys b w None); rows = rows_in_use g }
   unfolding nwk_placed reaction reply_of
   nameless-placed g b (Told a) e = refl
-  nameless-placed g b (Claims c) e = absurd (some-ne-none _ e)
+  nameless-placed g b (Claims c) e = absurd (none-some _ (sym e))
 
   -- as many rows are lent after an opening, and not too many are in use
   stays-placed : (g : Gateway) (b : List ℕ) → Good keys lent g → (w : Who)

@@ -1,7 +1,7 @@
 -- Openings of NWK frames as a machine over counter rows (cells, specs/Machine.antt). Assumes nothing.
 use Rattle.std.specs.Prelude.{List, ℕ, ◌≤◌}
 use Rattle.std.proofs.Common.{ap, ◌∙◌}
-use Rattle.std.proofs.Math.Option.{none}
+use Rattle.std.specs.Prelude.{None}
 use Rattle.cells.specs.Rows.{reply_of}
 use Rattle.cells.specs.Machine.{Machine}
 use Rattle.nib.specs.declared.counters.CounterRow.{CounterRow}
@@ -25,7 +25,7 @@ module _ (keys : NetworkKeys) (lent : ℕ) (two : keys.used ≤ 2) where
     places = capacity lent;
     names = λ b. pair_of (nwk_who keys b);
     react = λ b. reaction keys b (nwk_who keys b);
-    idle = λ b. reply_of (reaction keys b (nwk_who keys b) none);
+    idle = λ b. reply_of (reaction keys b (nwk_who keys b) None);
     Good = Good keys lent;
     stays-good = stays keys lent two;
     named = λ g b k h n. ap settled (opening keys lent two g b h) ∙ named-placed keys lent two g b k h (nwk_who keys b) n;

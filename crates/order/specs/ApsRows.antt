@@ -4,7 +4,8 @@ use Rattle.std.proofs.Math.Path.{refl}
 use Rattle.std.proofs.Common.{ap, eqb-true}
 use Rattle.std.proofs.Math.Bool.{true, false, cond}
 use mathlib.Core.List.{List, [], ◌∷◌}
-use Rattle.std.proofs.Math.Option.{Option, some, none-ne-some, some-injective}
+use Rattle.std.specs.Prelude.{Option, Some}
+use Rattle.std.proofs.lemmas.Option.{none-some, same_Some}
 use Prim.Native.Nat.{ℕ, suc, ◌+◌}
 use Rattle.std.proofs.Math.ListN.{length}
 use Rattle.std.proofs.Math.Seq.{take-append_seam}
@@ -67,17 +68,17 @@ hears-outgoing to device counter (r ∷ rs) = at (eqb r.device device) refl (hea
     later = put pair_rows rs device (heard (find pair_rows rs device) counter)
 
     at : (t : Bool) → eqb r.device device ≡ t → outgoing_in (first (may_use to) later) ≡ outgoing_in (first (may_use to) rs)
-        → outgoing_in (first (may_use to) (cond t (row_of device (heard (cond t (some (cell_in r)) (find pair_rows rs device)) counter) ∷ rs) (r ∷ put pair_rows rs device (heard (cond t (some (cell_in r)) (find pair_rows rs device)) counter))))
-        ≡ outgoing_in (cond (may_use to r) (some r) (first (may_use to) rs))
+        → outgoing_in (first (may_use to) (cond t (row_of device (heard (cond t (Some (cell_in r)) (find pair_rows rs device)) counter) ∷ rs) (r ∷ put pair_rows rs device (heard (cond t (Some (cell_in r)) (find pair_rows rs device)) counter))))
+        ≡ outgoing_in (cond (may_use to r) (Some r) (first (may_use to) rs))
     at true e ih =
         rw (← eqb-true r.device device e) (by (may_use to r))
       where
-        by : (u : Bool) → outgoing_in (cond u (some (row_of r.device (heard (some (cell_in r)) counter))) (first (may_use to) rs)) ≡ outgoing_in (cond u (some r) (first (may_use to) rs))
+        by : (u : Bool) → outgoing_in (cond u (Some (row_of r.device (heard (Some (cell_in r)) counter))) (first (may_use to) rs)) ≡ outgoing_in (cond u (Some r) (first (may_use to) rs))
         by true = refl
         by false = refl
     at false e ih = by (may_use to r)
       where
-        by : (u : Bool) → outgoing_in (cond u (some r) (first (may_use to) later)) ≡ outgoing_in (cond u (some r) (first (may_use to) rs))
+        by : (u : Bool) → outgoing_in (cond u (Some r) (first (may_use to) later)) ≡ outgoing_in (cond u (Some r) (first (may_use to) rs))
         by true = refl
         by false = ih
 
@@ -102,19 +103,19 @@ module _ (device : ℕ) where
       not-to e = rw (eqb-true r.device device (both _ _ e), other)
 
       at : (t : Bool) → may_use device r ≡ t → first (may_use to) (at_first (may_use device) raised rs) ≡ first (may_use to) rs
-          → first (may_use to) (cond t (raised r ∷ rs) (r ∷ at_first (may_use device) raised rs)) ≡ cond (may_use to r) (some r) (first (may_use to) rs)
+          → first (may_use to) (cond t (raised r ∷ rs) (r ∷ at_first (may_use device) raised rs)) ≡ cond (may_use to r) (Some r) (first (may_use to) rs)
       at true e ih = rw (not-to e)
       at false e ih = rw ih
 
   -- that of the row that was used rises by 1,
-  pub raising-own : (rs : List PairRow) (row : PairRow) → first (may_use device) rs ≡ some row → first (may_use device) (at_first (may_use device) raised rs) ≡ some (raised row)
+  pub raising-own : (rs : List PairRow) (row : PairRow) → first (may_use device) rs ≡ Some row → first (may_use device) (at_first (may_use device) raised rs) ≡ Some (raised row)
   unfolding first at_first
-  raising-own [] row e = absurd (none-ne-some row e)
+  raising-own [] row e = absurd (none-some row e)
   raising-own (r ∷ rs) row e = at (may_use device r) refl (λ f. raising-own rs row f) e
     where
-      at : (t : Bool) → may_use device r ≡ t → (first (may_use device) rs ≡ some row → first (may_use device) (at_first (may_use device) raised rs) ≡ some (raised row))
-          → cond t (some r) (first (may_use device) rs) ≡ some row → first (may_use device) (cond t (raised r ∷ rs) (r ∷ at_first (may_use device) raised rs)) ≡ some (raised row)
-      at true t ih f = rw t (ap (λ (x : PairRow). some (raised x)) (some-injective r row f))
+      at : (t : Bool) → may_use device r ≡ t → (first (may_use device) rs ≡ Some row → first (may_use device) (at_first (may_use device) raised rs) ≡ Some (raised row))
+          → cond t (Some r) (first (may_use device) rs) ≡ Some row → first (may_use device) (cond t (raised r ∷ rs) (r ∷ at_first (may_use device) raised rs)) ≡ Some (raised row)
+      at true t ih f = rw t (ap (λ (x : PairRow). Some (raised x)) (same_Some r row f))
       at false t ih f = rw t (ih f)
 
   -- and every device keeps its incoming counter
@@ -124,15 +125,15 @@ module _ (device : ℕ) where
   raising-incoming k (r ∷ rs) = at (may_use device r) (raising-incoming k rs)
     where
       at : (t : Bool) → incoming (find pair_rows (at_first (may_use device) raised rs) k) ≡ incoming (find pair_rows rs k)
-          → incoming (find pair_rows (cond t (raised r ∷ rs) (r ∷ at_first (may_use device) raised rs)) k) ≡ incoming (cond (eqb r.device k) (some (cell_in r)) (find pair_rows rs k))
+          → incoming (find pair_rows (cond t (raised r ∷ rs) (r ∷ at_first (may_use device) raised rs)) k) ≡ incoming (cond (eqb r.device k) (Some (cell_in r)) (find pair_rows rs k))
       at true ih = by (eqb r.device k)
         where
-          by : (u : Bool) → incoming (cond u (some (cell_in (raised r))) (find pair_rows rs k)) ≡ incoming (cond u (some (cell_in r)) (find pair_rows rs k))
+          by : (u : Bool) → incoming (cond u (Some (cell_in (raised r))) (find pair_rows rs k)) ≡ incoming (cond u (Some (cell_in r)) (find pair_rows rs k))
           by true = refl
           by false = refl
       at false ih = by (eqb r.device k)
         where
-          by : (u : Bool) → incoming (cond u (some (cell_in r)) (find pair_rows (at_first (may_use device) raised rs) k)) ≡ incoming (cond u (some (cell_in r)) (find pair_rows rs k))
+          by : (u : Bool) → incoming (cond u (Some (cell_in r)) (find pair_rows (at_first (may_use device) raised rs) k)) ≡ incoming (cond u (Some (cell_in r)) (find pair_rows rs k))
           by true = refl
           by false = ih
 

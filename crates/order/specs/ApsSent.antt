@@ -1,7 +1,7 @@
 -- What a securing of APS comes to: a refusal, or a finished frame. Assumes nothing.
 use Rattle.std.specs.Prelude.{◌≡◌, refl, Bool, false, ◌||◌, ◌&&◌, List, ℕ, ◌+◌, ◌≤◌, eqb, get_or}
 use Rattle.std.proofs.Math.Bool.{not}
-use Rattle.std.proofs.Math.Option.{Option, none, some}
+use Rattle.std.specs.Prelude.{Option, None, Some}
 use Rattle.std.proofs.Math.Dec.{ltb}
 use Rattle.std.proofs.Math.ListN.{length}
 use Rattle.std.proofs.Common.{ltb-false}
@@ -26,7 +26,7 @@ module _ (s : Aps) (pairs : Pairs) (device : ℕ) (extended : Bool) (plain out :
 
   pub data Sent : Secured → Type 0 where
     not-sent : (why : Refusal) → Sent (not_secured why out pairs)
-    sent : (row : PairRow) (identifier : KeyIdentifier) → first (may_use device) (in_use pairs) ≡ some row → identifier_for plain header ≡ some identifier → header ≤ length plain
+    sent : (row : PairRow) (identifier : KeyIdentifier) → first (may_use device) (in_use pairs) ≡ Some row → identifier_for plain header ≡ Some identifier → header ≤ length plain
         → eqb row.outgoing spent ≡ false → Sent (aps_done s pairs device row identifier plain out header)
 
   pub securing : Sent (secure_aps s pairs device extended plain out)
@@ -38,23 +38,23 @@ module _ (s : Aps) (pairs : Pairs) (device : ℕ) (extended : Bool) (plain out :
       (which Sent (ltb (length plain) header || (is_command (get_or plain 0 0) && ltb (length plain) (header + 1))) (λ cut. not-sent _)
       (λ t. keyed (ltb-false (length plain) header (nor (ltb (length plain) header) _ t)) (identifier_for plain header) refl))))
     where
-      by_row : header ≤ length plain → (k : KeyIdentifier) → identifier_for plain header ≡ some k → (r : Option PairRow) → first (may_use device) (in_use pairs) ≡ r
+      by_row : header ≤ length plain → (k : KeyIdentifier) → identifier_for plain header ≡ Some k → (r : Option PairRow) → first (may_use device) (in_use pairs) ≡ r
           → Sent (aps_sent s pairs device extended k plain out header r)
-      by_row whole k chosen none e = not-sent _
-      by_row whole k chosen (some row) e =
+      by_row whole k chosen None e = not-sent _
+      by_row whole k chosen (Some row) e =
           which Sent (eqb row.outgoing spent) (λ t. not-sent _) (λ usable.
           either Sent (not (is_command (get_or plain 0 0)) && not extended) (not-sent _)
           (either Sent (ltb (length out) (length plain + aps_added)) (not-sent _) (sent row k e chosen whole usable)))
 
       keyed : header ≤ length plain → (k : Option KeyIdentifier) → identifier_for plain header ≡ k → Sent (aps_keyed s pairs device extended plain out header k)
-      keyed whole none e = not-sent _
-      keyed whole (some k) e = by_row whole k e (first (may_use device) (in_use pairs)) refl
+      keyed whole None e = not-sent _
+      keyed whole (Some k) e = by_row whole k e (first (may_use device) (in_use pairs)) refl
 
 -- The same for an advance.
 module _ (pairs : Pairs) (device : ℕ) where
   pub data Advances : Advanced → Type 0 where
     not-advanced : (why : Refusal) → Advances (not_advanced why pairs)
-    advances : (row : PairRow) → first (may_use device) (in_use pairs) ≡ some row → eqb row.outgoing spent ≡ false
+    advances : (row : PairRow) → first (may_use device) (in_use pairs) ≡ Some row → eqb row.outgoing spent ≡ false
         → Advances (record { outcome = Done; counter = row.outgoing; pairs = holding (at_first (may_use device) raised (in_use pairs)) pairs })
 
   pub advancing : Advances (advanced pairs device)
@@ -62,5 +62,5 @@ module _ (pairs : Pairs) (device : ℕ) where
   advancing = either Advances (ltb 16 pairs.used) (not-advanced _) (by_row (first (may_use device) (in_use pairs)) refl)
     where
       by_row : (r : Option PairRow) → first (may_use device) (in_use pairs) ≡ r → Advances (advanced_by pairs device r)
-      by_row none e = not-advanced _
-      by_row (some row) e = which Advances (eqb row.outgoing spent) (λ t. not-advanced _) (λ usable. advances row e usable)
+      by_row None e = not-advanced _
+      by_row (Some row) e = which Advances (eqb row.outgoing spent) (λ t. not-advanced _) (λ usable. advances row e usable)

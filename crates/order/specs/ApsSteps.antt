@@ -1,7 +1,7 @@
 -- A device that opens APS frames, secures APS frames and advances outgoing counters, in any mix; and which counters and nonces it uses with the row
 -- of one device.
 use Rattle.std.specs.Prelude.{Bool, cond, List, ℕ, eqb, get_or}
-use Rattle.std.proofs.Math.Option.{Option, none, some}
+use Rattle.std.specs.Prelude.{Option, None, Some}
 use Rattle.cells.specs.First.{first}
 use Rattle.control.specs.Control.{filled, sent}
 use Rattle.control.specs.declared.KeyIdentifier.{KeyIdentifier}
@@ -31,28 +31,28 @@ after_step g (advancing device) = record { aps = g.aps; pairs = (advanced g.pair
 
 -- the outgoing counter of the row that a securing to this device uses; 0 if there is none, as a new row has it
 abbrev pub outgoing_in : Option PairRow → ℕ
-outgoing_in none = 0
-outgoing_in (some row) = row.outgoing
+outgoing_in None = 0
+outgoing_in (Some row) = row.outgoing
 
 abbrev pub outgoing_to : ℕ → Gateway → ℕ
 outgoing_to device g = outgoing_in (first (may_use device) (in_use g.pairs))
 
 -- the counter of the row for `to` that a call uses: that of the frame that it secures, or the one that it hands out
 abbrev pub counter_used : ℕ → Gateway → Step → Option ℕ
-counter_used to g (opening frame) = none
-counter_used to g (securing device extended plain out) = cond (eqb device to) (if_done (secured g device extended plain out).answer (outgoing_to to g)) none
-counter_used to g (advancing device) = cond (eqb device to) (if_taken (advanced g.pairs device).outcome (advanced g.pairs device).counter) none
+counter_used to g (opening frame) = None
+counter_used to g (securing device extended plain out) = cond (eqb device to) (if_done (secured g device extended plain out).answer (outgoing_to to g)) None
+counter_used to g (advancing device) = cond (eqb device to) (if_taken (advanced g.pairs device).outcome (advanced g.pairs device).counter) None
 
 -- the control byte that is sent, with the level filled in
 abbrev pub control_of : Option KeyIdentifier → ℕ
-control_of none = 0
-control_of (some identifier) = filled (sent identifier) 5
+control_of None = 0
+control_of (Some identifier) = filled (sent identifier) 5
 
 -- the nonce of the frame that it secures with that row: own address, counter, and that control byte
 abbrev pub nonce_used : ℕ → Gateway → Step → Option (List ℕ)
-nonce_used to g (opening frame) = none
+nonce_used to g (opening frame) = None
 nonce_used to g (securing device extended plain out) =
     cond (eqb device to)
     (if_done (secured g device extended plain out).answer (nonce_of g.aps.own (outgoing_to to g) (control_of (identifier_for plain (aps_length (get_or plain 0 0))))))
-    none
-nonce_used to g (advancing device) = none
+    None
+nonce_used to g (advancing device) = None

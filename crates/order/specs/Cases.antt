@@ -2,7 +2,7 @@
 -- records here ask for is shown in the crates `needed` and `needed_aps`, proofs/Inhabited.antt. Assumes nothing.
 use Rattle.std.specs.Prelude.{◌≡◌, refl, Bool, true, false, cond, List, [], ◌∷◌, ℕ, ◌≤◌, ◌<◌, length, take}
 use Rattle.std.proofs.Common.{ap, ◌∙◌, arith, eq-eqb, le-ltb}
-use Rattle.std.proofs.Math.Option.{some}
+use Rattle.std.specs.Prelude.{Some}
 use Rattle.std.proofs.lemmas.Bool.{lt-leb}
 use Rattle.answer.specs.declared.Answer.{Answer}
 use Rattle.answer.specs.declared.Answer.TheVariants.{Done}
@@ -46,7 +46,7 @@ pub record NwkHeard (s : Nwk) (rows : List CounterRow) (used : ℕ) (b : List �
   pub claim : Claim
   pub taken : nwk_unfit s rows used ≡ false
   pub claims : nwk_who s.keys b ≡ Claims claim
-  pub holds : counter_in (find counter_rows (take used rows) (pair (number_of claim.key) claim.sender)) ≡ some held
+  pub holds : counter_in (find counter_rows (take used rows) (pair (number_of claim.key) claim.sender)) ≡ Some held
   pub counts : claim.counter ≡ counter
 
 -- An NWK frame opens, under this key number.
@@ -64,7 +64,7 @@ pub record ApsHeard (s : Aps) (pairs : Pairs) (b : List ℕ) (held counter : ℕ
   pub known : PairCell
   pub taken : aps_unfit s pairs ≡ false
   pub claims : aps_who b ≡ Claims claim
-  pub row : find pair_rows (in_use pairs) claim.sender ≡ some known
+  pub row : find pair_rows (in_use pairs) claim.sender ≡ Some known
   pub holds : known.incoming ≡ held
   pub counts : claim.counter ≡ counter
 

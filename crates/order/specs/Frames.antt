@@ -1,6 +1,6 @@
 -- What an opening leaves in a frame's buffer, and what is told of the frame.
 use Rattle.std.specs.Prelude.{List, ℕ}
-use Rattle.std.proofs.Math.Option.{Option, none, some}
+use Rattle.std.specs.Prelude.{Option, None, Some}
 use Rattle.answer.specs.declared.Answer.{Answer}
 use Rattle.answer.specs.declared.Answer.TheVariants as answer
 use Rattle.answer.specs.declared.Outcome.{Outcome}
@@ -21,10 +21,10 @@ says h = (h.answer, told h.answer)
 
 -- x, where a call was done
 abbrev pub if_done : {A : Type 0} → Answer → A → Option A
-if_done (answer.Done start len) x = some x
-if_done (answer.Plain start len) x = none
-if_done (answer.Refused why) x = none
+if_done (answer.Done start len) x = Some x
+if_done (answer.Plain start len) x = None
+if_done (answer.Refused why) x = None
 
 abbrev pub if_taken : {A : Type 0} → Outcome → A → Option A
-if_taken outcome.Done x = some x
-if_taken (outcome.Refused why) x = none
+if_taken outcome.Done x = Some x
+if_taken (outcome.Refused why) x = None

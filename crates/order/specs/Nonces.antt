@@ -1,6 +1,6 @@
 -- Under which nonce a frame is sealed. Assumes nothing.
 use Rattle.std.specs.Prelude.{◌≡◌, Bool, List, ◌++◌, ℕ, ◌+◌, length, take, drop, get_or}
-use Rattle.std.proofs.Math.Option.{some}
+use Rattle.std.specs.Prelude.{Some}
 use Rattle.cells.specs.First.{first}
 use Rattle.control.specs.Control.{sent}
 use Rattle.control.specs.declared.KeyIdentifier.{KeyIdentifier}
@@ -32,7 +32,7 @@ module _ (g : Gateway) (device : ℕ) (extended : Bool) (plain out : List ℕ) w
   -- what was put out is the frame of `aps_on_air` for the row that securing to the device uses, by the key that the frame asks for, and that is sealed under
   -- own address, that row's counter and the control byte for that key
   abbrev pub ApsSealed : List ℕ → Type 0
-  ApsSealed put = (row : PairRow) × (identifier : KeyIdentifier) × (first (may_use device) (in_use g.pairs) ≡ some row) × (identifier_for plain header ≡ some identifier)
+  ApsSealed put = (row : PairRow) × (identifier : KeyIdentifier) × (first (may_use device) (in_use g.pairs) ≡ Some row) × (identifier_for plain header ≡ Some identifier)
       × (put ≡ aps_on_air g.aps row identifier plain header ++ drop (length plain + aps_added) out)
       × (nonce_at g.aps.own row.outgoing header (take header plain ++ auxiliary_octets (sent identifier) row.outgoing g.aps.own 0)
       ≡ nonce_of g.aps.own row.outgoing (aps.control_of (identifier_for plain header)))

@@ -3,7 +3,7 @@
 -- and the one after that would be three numbers. Which frames open does not depend on the order. Assumes nothing.
 use Rattle.std.specs.Prelude.{Bool, eqb}
 use Rattle.std.proofs.Math.Bool.{false}
-use Rattle.std.proofs.Math.Option.{Option, none, some}
+use Rattle.std.specs.Prelude.{Option, None, Some}
 use Prim.Native.Nat.{ℕ}
 use Rattle.answer.specs.declared.Answer.{Answer}
 use Rattle.answer.specs.declared.Answer.TheVariants.{Done, Plain, Refused}
@@ -11,7 +11,7 @@ use Rattle.nib.specs.Pairs.{Pair}
 
 -- the frame opened, under the number n
 abbrev pub opens_under : ℕ → Option Pair → Answer → Bool
-opens_under n none a = false
-opens_under n (some k) (Done start len) = eqb k.number n
-opens_under n (some k) (Plain start len) = false
-opens_under n (some k) (Refused why) = false
+opens_under n None a = false
+opens_under n (Some k) (Done start len) = eqb k.number n
+opens_under n (Some k) (Plain start len) = false
+opens_under n (Some k) (Refused why) = false

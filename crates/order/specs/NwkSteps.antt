@@ -1,6 +1,6 @@
 -- A device on the network that opens frames, secures frames and takes counters, in any mix; and which counters and nonces it uses.
 use Rattle.std.specs.Prelude.{List, ℕ}
-use Rattle.std.proofs.Math.Option.{Option, none}
+use Rattle.std.specs.Prelude.{Option, None}
 use Rattle.auxiliary_header.specs.Nonce.{nonce_of}
 use Rattle.nib.specs.declared.outgoing.Outgoing.{Outgoing}
 use Rattle.nib.specs.Sending.{taken}
@@ -30,12 +30,12 @@ after_step d taking = record { gateway = d.gateway; outgoing = (taken d.outgoing
 
 -- the counter that a call uses: that of the frame that it secures, or the one that it hands out
 abbrev pub counter_used : Device → Step → Option ℕ
-counter_used d (opening frame) = none
+counter_used d (opening frame) = None
 counter_used d (securing plain out) = if_done (secured d plain out).answer d.outgoing.next
 counter_used d taking = if_taken (taken d.outgoing).outcome (taken d.outgoing).counter
 
 -- the nonce of the frame that it secures: own address, counter, and the control byte that NWK sends, with the level filled in
 abbrev pub nonce_used : Device → Step → Option (List ℕ)
-nonce_used d (opening frame) = none
+nonce_used d (opening frame) = None
 nonce_used d (securing plain out) = if_done (secured d plain out).answer (nonce_of d.gateway.nwk.own d.outgoing.next 0x2D)
-nonce_used d taking = none
+nonce_used d taking = None

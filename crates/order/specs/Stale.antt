@@ -1,7 +1,8 @@
 -- When a frame has opened, and how an old one is refused. Assumes nothing.
 use Rattle.std.specs.Prelude.{◌≡◌, Bool, true, false, List, ℕ, ◌≤◌, ◌<◌}
 use Rattle.std.proofs.Common.{ap, arith, ltb-false}
-use Rattle.std.proofs.Math.Option.{Option, none, some, some-injective, none-ne-some}
+use Rattle.std.specs.Prelude.{Option, None, Some}
+use Rattle.std.proofs.lemmas.Option.{none-some, same_Some}
 use Rattle.std.proofs.Math.Decide.{dec_le}
 use Rattle.answer.specs.declared.Answer.{Answer}
 use Rattle.answer.specs.declared.Answer.TheVariants.{Done, Plain, Refused}
@@ -23,7 +24,7 @@ opens h = is_done h.answer
 -- below; and b stays as it is.
 pub record Stale (now : Option ℕ) (counter : ℕ) (repeated behind : Refusal) (b : List ℕ) (h : Heard) : Type 0 where
   pub held : ℕ
-  pub holds : now ≡ some held
+  pub holds : now ≡ Some held
   pub not-above : counter ≤ held
   pub equal : counter ≡ held → h ≡ refused repeated b
   pub lower : counter < held → h ≡ refused behind b
@@ -44,6 +45,6 @@ counter_of (Told a) = 0
 counter_of (Claims c) = c.counter
 
 -- what is held is not above a counter that is not below it
-pub not-above : (held : Option ℕ) (n : ℕ) → below held n ≡ false → (h : ℕ) → held ≡ some h → h ≤ n
-not-above none n f h q = absurd (none-ne-some h q)
-not-above (some m) n f h q = let same : m ≡ h = some-injective m h q in omega (arith, ltb-false n m f)
+pub not-above : (held : Option ℕ) (n : ℕ) → below held n ≡ false → (h : ℕ) → held ≡ Some h → h ≤ n
+not-above None n f h q = absurd (none-some h q)
+not-above (Some m) n f h q = let same : m ≡ h = same_Some m h q in omega (arith, ltb-false n m f)

@@ -1,6 +1,6 @@
 -- What an opening gives a frame, and the tests of the counter that is held for it.
 use Rattle.std.specs.Prelude.{Bool, false, List, ℕ, eqb, ltb}
-use Rattle.std.proofs.Math.Option.{Option, none, some}
+use Rattle.std.specs.Prelude.{Option, None, Some}
 use Rattle.answer.specs.declared.Answer.{Answer}
 use Rattle.answer.specs.declared.Answer.TheVariants.{Refused}
 use Rattle.answer.specs.declared.Refusal.{Refusal}
@@ -15,9 +15,9 @@ refused why b = record { answer = Refused why; frame = b }
 
 -- the tests of a held counter, if one is held
 abbrev pub equals : Option ℕ → ℕ → Bool
-equals none c = false
-equals (some held) c = eqb c held
+equals None c = false
+equals (Some held) c = eqb c held
 
 abbrev pub below : Option ℕ → ℕ → Bool
-below none c = false
-below (some held) c = ltb c held
+below None c = false
+below (Some held) c = ltb c held
