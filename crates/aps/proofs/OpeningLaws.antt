@@ -1,18 +1,17 @@
 -- The steps of an opening make up its definition, on plain values. Assumes nothing.
+use Rattle.std.specs.Prelude.{Err, None, Ok, Option, Some}
 use mathlib.Core.Path.{◌≡◌, refl, sym, ◌∙◌}
 use mathlib.Core.Bool.{Bool, true, false, cond, not, ◌||◌}
 use mathlib.Core.List.{List, [], ◌∷◌}
-use mathlib.Core.Option.{Option, none, some}
 use Prim.Native.Nat.{ℕ, ◌+◌, ◌≤◌}
 use native.Mathlib.Omega.{arith}
 use lib.Dec.{eqb, ltb}
 use lib.ListN.{length, take-append-drop}
 use lib.Seq.{length-take-le}
 use borrow.Author.Tests.{le-ltb, ltb-false}
-use Rattle.answer.specs.declared.Answer.{Answer}
-use Rattle.answer.specs.declared.Answer.TheVariants as answer
-use Rattle.answer.specs.declared.Outcome.{Outcome}
-use Rattle.answer.specs.declared.Outcome.TheVariants.{Done, Refused}
+use Rattle.answer.specs.Numbers.{Answer}
+use Rattle.answer.specs.declared.Accepted.TheVariants as answer
+use Rattle.answer.specs.Numbers.{Outcome}
 use Rattle.answer.specs.declared.Refusal.{Refusal}
 use Rattle.answer.specs.declared.Refusal.TheVariants.{Unsupported, Cut, KeyNotAllowed, CounterRepeated, CounterBehind, WrongTag, TableFull}
 use Rattle.cells.specs.Lists.{any}
@@ -46,21 +45,21 @@ module _ (c : Claim) (held : Option PairCell) (free : Bool) (b : List ℕ) where
       (cond barred (leave (refused KeyNotAllowed b))
       (cond (not right) (leave (refused WrongTag b))
       (become (heard held c.counter)
-      (record { answer = answer.Done c.payload (payload_size c.payload b); frame = opened_octets chosen.key c.sender c.counter c.at c.payload b })
+      (record { answer = Ok (answer.Done c.payload (payload_size c.payload b)); frame = opened_octets chosen.key c.sender c.counter c.at c.payload b })
       (refused TableFull b))))))
 
   abbrev outcome : Bool → Bool → Bool → Outcome
-  outcome repeated behind cut = cond repeated (Refused CounterRepeated) (cond behind (Refused CounterBehind) (cond cut (Refused Cut) Done))
+  outcome repeated behind cut = cond repeated (Err CounterRepeated) (cond behind (Err CounterBehind) (cond cut (Err Cut) (Ok tt)))
 
-  pub judged-refused : (why : Refusal) → allowed c (incoming held) (length b) ≡ Refused why → refused why b ≡ replied free (aps_judged c held b)
+  pub judged-refused : (why : Refusal) → allowed c (incoming held) (length b) ≡ Err why → refused why b ≡ replied free (aps_judged c held b)
   unfolding allowed aps_judged
   judged-refused why =
       go (equals (incoming held) c.counter) (below (incoming held) c.counter) (ltb (length b) (c.payload + 4)) chosen.refused (vouches chosen.key c.sender c.counter c.at c.payload b)
     where
-      is : {q : Refusal} → Refused q ≡ Refused why → refused why b ≡ refused q b
+      is : {q : Refusal} → Err q ≡ Err why → refused why b ≡ refused q b
       is {q} e = let z : q ≡ why = cc in rw z
 
-      go : (t1 t2 t3 t4 t5 : Bool) → outcome t1 t2 t3 ≡ Refused why → refused why b ≡ replied free (reaction t1 t2 t3 t4 t5)
+      go : (t1 t2 t3 t4 t5 : Bool) → outcome t1 t2 t3 ≡ Err why → refused why b ≡ replied free (reaction t1 t2 t3 t4 t5)
       go true t2 t3 t4 t5 e = is e
       go false true t3 t4 t5 e = is e
       go false false true t4 t5 e = is e
@@ -81,19 +80,19 @@ module _ (c : Claim) (held : Option PairCell) (free : Bool) (b : List ℕ) where
   }
     where
       opens : Heard
-      opens = record { answer = answer.Done c.payload (payload_size c.payload b); frame = opened_octets chosen.key c.sender c.counter c.at c.payload b }
+      opens = record { answer = Ok (answer.Done c.payload (payload_size c.payload b)); frame = opened_octets chosen.key c.sender c.counter c.at c.payload b }
 
       by-tag : (t : Bool) → cond (not t) (refused WrongTag b) (cond free opens (refused TableFull b))
           ≡ replied free (cond (not t) (leave (refused WrongTag b)) (become (heard held c.counter) opens (refused TableFull b)))
       by-tag true = refl
       by-tag false = refl
 
-  pub judged-allowed : allowed c (incoming held) (length b) ≡ Done → Allowed
+  pub judged-allowed : allowed c (incoming held) (length b) ≡ (Ok tt) → Allowed
   unfolding allowed
   judged-allowed = go (equals (incoming held) c.counter) refl (below (incoming held) c.counter) refl (ltb (length b) (c.payload + 4)) refl
     where
       go : (t1 : Bool) → equals (incoming held) c.counter ≡ t1 → (t2 : Bool) → below (incoming held) c.counter ≡ t2 → (t3 : Bool) → ltb (length b) (c.payload + 4) ≡ t3
-          → outcome t1 t2 t3 ≡ Done → Allowed
+          → outcome t1 t2 t3 ≡ (Ok tt) → Allowed
       go true p t2 q t3 l e = let z : ◌≡◌ {A = ℕ} 0 1 = cc in absurd (omega arith)
       go false p true q t3 l e = let z : ◌≡◌ {A = ℕ} 0 1 = cc in absurd (omega arith)
       go false p false q true l e = let z : ◌≡◌ {A = ℕ} 0 1 = cc in absurd (omega arith)
@@ -107,13 +106,13 @@ found-row [] d = refl
 found-row (r ∷ rs) d = at (is_row pair_rows d r) (found-row rs d)
   where
     at : (t : Bool) → (answered d (find pair_rows rs d)).found ≡ has_row pair_rows rs d
-        → (answered d (cond t (some (cell_in r)) (find pair_rows rs d))).found ≡ t || has_row pair_rows rs d
+        → (answered d (cond t (Some (cell_in r)) (find pair_rows rs d))).found ≡ t || has_row pair_rows rs d
     at true e = refl
     at false e = e
 
 held_found : (d : ℕ) (o : Option PairCell) → held_in (answered d o) ≡ o
-held_found d none = refl
-held_found d (some p) = refl
+held_found d None = refl
+held_found d (Some p) = refl
 
 module _ (pairs : Pairs) (d : ℕ) where
   pub held-is : held_in (pair_found pairs d) ≡ find pair_rows (in_use pairs) d

@@ -1,16 +1,16 @@
 -- The round trip of APS: what `secure_aps` makes, a gateway that holds the same link key for the sender opens to the same payload, whichever
 -- key identifier it was sent by. Assumes nothing.
+use Rattle.std.specs.Prelude.{None, Ok, Option, Some}
 use mathlib.Core.Path.{◌≡◌, refl, sym, ap, ◌∙◌}
 use mathlib.Core.Bool.{Bool, true, false}
 use mathlib.Core.List.{List, ◌++◌, append_assoc}
-use mathlib.Core.Option.{Option, none, some}
 use Prim.Native.Nat.{ℕ, ◌+◌, ◌-◌, ◌^◌, ◌≤◌, ◌<◌}
 use native.Mathlib.Omega.{arith}
 use lib.Dec.{ltb}
 use lib.ListN.{length, take, drop, get_or, length-append, length-drop, get_or-append}
 use lib.Seq.{length-take-le, take_at, get_or-take}
 use borrow.Author.Tests.{le-ltb, ne_eqb}
-use Rattle.answer.specs.declared.Answer.TheVariants.{Done}
+use Rattle.answer.specs.declared.Accepted.TheVariants.{Done}
 use Rattle.answer.specs.declared.Refusal.TheVariants.{TableFull}
 use Rattle.cells.specs.Rows.{become, find, put, room, settle}
 use Rattle.aib.specs.declared.pairs.PairRow.{PairRow}
@@ -63,11 +63,11 @@ not-barred Load link n = refl
 pub record Hears (sender counter : ℕ) (link : List ℕ) (g : Aps) (pairs : Pairs) : Type 0 where
   pub fit : aps_unfit g pairs ≡ false
   pub same_key : link_key (find pair_rows (in_use pairs) sender) ≡ link
-  pub lower : (p : PairCell) → find pair_rows (in_use pairs) sender ≡ some p → p.incoming < counter
+  pub lower : (p : PairCell) → find pair_rows (in_use pairs) sender ≡ Some p → p.incoming < counter
   pub has_room : room pair_rows 16 (in_use pairs) sender ≡ true
 
 module _ (s : Aps) (pairs : Pairs) (d : ℕ) (extended : Bool) (plain out : List ℕ) (start len : ℕ)
-    (done : (secure_aps s pairs d extended plain out).answer ≡ Done start len) where
+    (done : (secure_aps s pairs d extended plain out).answer ≡ Ok (Done start len)) where
   abbrev found : PairFound
   found = usable_found pairs d
 
@@ -180,8 +180,8 @@ module _ (s : Aps) (pairs : Pairs) (d : ℕ) (extended : Bool) (plain out : List
       opened = protection.laid key s.own row.outgoing header headers payload inside
 
       not-held : (h : Option PairCell) → held ≡ h → (equals (incoming h) row.outgoing ≡ false) × (below (incoming h) row.outgoing ≡ false)
-      not-held none e = (refl, refl)
-      not-held (some p) e =
+      not-held None e = (refl, refl)
+      not-held (Some p) e =
           let l : p.incoming < row.outgoing = hears.lower p e in
           (ne_eqb row.outgoing p.incoming (λ q. omega arith), le-ltb row.outgoing p.incoming (omega arith))
 
@@ -189,7 +189,7 @@ module _ (s : Aps) (pairs : Pairs) (d : ℕ) (extended : Bool) (plain out : List
       size = rw frame-length (omega arith)
 
       frame-judged : aps_judged claim held frame
-          ≡ become (heard held row.outgoing) (record { answer = Done (header + 13) (length plain - header); frame = opened }) (refused TableFull frame)
+          ≡ become (heard held row.outgoing) (record { answer = Ok (Done (header + 13) (length plain - header)); frame = opened }) (refused TableFull frame)
       unfolding aps_judged aps_on_air opened
       frame-judged =
           let n = not-held held refl in
@@ -204,7 +204,7 @@ module _ (s : Aps) (pairs : Pairs) (d : ℕ) (extended : Bool) (plain out : List
       -- all that the opening leaves: the sender's row holds the counter
       pub heard-frame : open_aps g theirs frame
           ≡ aps_committed theirs
-          (record { out = record { answer = Done (header + 13) (length plain - header); frame = opened }; rows = put pair_rows (in_use theirs) s.own (heard held row.outgoing) })
+          (record { out = record { answer = Ok (Done (header + 13) (length plain - header)); frame = opened }; rows = put pair_rows (in_use theirs) s.own (heard held row.outgoing) })
       unfolding open_aps aps_placed settle
       heard-frame = rw (hears.fit, frame-claims, frame-judged, hears.has_room)
 
@@ -212,7 +212,7 @@ module _ (s : Aps) (pairs : Pairs) (d : ℕ) (extended : Bool) (plain out : List
       abbrev pub result : Opened
       result = open_aps g theirs (take len (secure_aps s pairs d extended plain out).out)
 
-      pub round_trip : (result.answer ≡ Done (header + 13) (length payload)) × (take (length payload) (drop (header + 13) result.frame) ≡ payload)
+      pub round_trip : (result.answer ≡ Ok (Done (header + 13) (length payload))) × (take (length payload) (drop (header + 13) result.frame) ≡ payload)
       unfolding opened
       round_trip =
           let e : result ≡ open_aps g theirs frame = rw sent-frame in

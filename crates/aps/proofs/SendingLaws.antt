@@ -1,16 +1,15 @@
 -- The judgement of securing decides what securing leaves, on plain values. Assumes nothing.
+use Rattle.std.specs.Prelude.{Err, None, Ok, Option, Some}
 use mathlib.Core.Path.{◌≡◌, refl, sym, ap, ◌∙◌}
 use mathlib.Core.Bool.{Bool, true, false, cond, not, ◌||◌, ◌&&◌}
 use mathlib.Core.List.{List}
-use mathlib.Core.Option.{Option, none, some}
 use Prim.Native.Nat.{ℕ, ◌+◌, ◌≤◌, ◌<◌}
 use native.Mathlib.Omega.{arith}
 use lib.Dec.{eqb, ltb}
 use lib.ListN.{length, get_or}
 use borrow.Author.Tests.{not-false, lt-ltb, le-ltb, ltb-true, ltb-false, ne_eqb, eqb-false}
-use Rattle.answer.specs.declared.Answer.TheVariants as answer
-use Rattle.answer.specs.declared.Outcome.{Outcome}
-use Rattle.answer.specs.declared.Outcome.TheVariants.{Done, Refused}
+use Rattle.answer.specs.declared.Accepted.TheVariants as answer
+use Rattle.answer.specs.Numbers.{Outcome}
 use Rattle.answer.specs.declared.Refusal.{Refusal}
 use Rattle.answer.specs.declared.Refusal.TheVariants.{Unsupported, Cut, NoPair, CounterSpent, SenderAbsent, NoRoom}
 use Rattle.aib.specs.declared.pairs.PairRow.{PairRow}
@@ -68,7 +67,7 @@ numberless plain header identifier = go (is_transport_key plain header) (eqb kin
     is : {k : KeyIdentifier} → has_number (sent k) ≡ false → chosen.Key k ≡ chosen.Key identifier → has_number (sent identifier) ≡ false
     is {k} h e = let z : k ≡ identifier = cc in rw z at h
 
-    go : (t u v w : Bool) → choice (cond t (cond u (some Transport) (cond v (some Load) (cond w (some Load) none))) (some Link)) ≡ chosen.Key identifier → has_number (sent identifier) ≡ false
+    go : (t u v w : Bool) → choice (cond t (cond u (Some Transport) (cond v (Some Load) (cond w (Some Load) None))) (Some Link)) ≡ chosen.Key identifier → has_number (sent identifier) ≡ false
     go false u v w e = is refl e
     go true true v w e = is refl e
     go true false true w e = is refl e
@@ -77,15 +76,15 @@ numberless plain header identifier = go (is_transport_key plain header) (eqb kin
 
 -- ---- a check that was passed
 
-passed : (t : Bool) (why : Refusal) (rest : Outcome) → cond t (Refused why) rest ≡ Done → (t ≡ false) × (rest ≡ Done)
+passed : (t : Bool) (why : Refusal) (rest : Outcome) → cond t (Err why) rest ≡ (Ok tt) → (t ≡ false) × (rest ≡ (Ok tt))
 passed true why rest e = let z : ◌≡◌ {A = ℕ} 0 1 = cc in absurd (omega arith)
 passed false why rest e = (refl, e)
 
-chose : (o : Outcome) (next : Chosen) (identifier : KeyIdentifier) → unless o next ≡ chosen.Key identifier → (o ≡ Done) × (next ≡ chosen.Key identifier)
-chose Done next identifier e = (refl, e)
-chose (Refused why) next identifier e = let z : ◌≡◌ {A = ℕ} 0 1 = cc in absurd (omega arith)
+chose : (o : Outcome) (next : Chosen) (identifier : KeyIdentifier) → unless o next ≡ chosen.Key identifier → (o ≡ (Ok tt)) × (next ≡ chosen.Key identifier)
+chose (Ok tt) next identifier e = (refl, e)
+chose (Err why) next identifier e = let z : ◌≡◌ {A = ℕ} 0 1 = cc in absurd (omega arith)
 
-kept : (o : Outcome) (next : Chosen) (identifier : KeyIdentifier) → by_sending o next ≡ chosen.Key identifier → (o ≡ Done) × (next ≡ chosen.Key identifier)
+kept : (o : Outcome) (next : Chosen) (identifier : KeyIdentifier) → by_sending o next ≡ chosen.Key identifier → (o ≡ (Ok tt)) × (next ≡ chosen.Key identifier)
 kept o (chosen.Refused why) identifier e = let z : ◌≡◌ {A = ℕ} 0 1 = cc in absurd (omega arith)
 kept o (chosen.Key k) identifier e = chose o (chosen.Key k) identifier e
 
@@ -101,7 +100,7 @@ unfit-false : (t u : Bool) → (t || u) ≡ false → u ≡ false
 unfit-false true u e = let z : ◌≡◌ {A = ℕ} 0 1 = cc in absurd (omega arith)
 unfit-false false u e = e
 
-pub plain-is-taken : (s : Aps) (used : ℕ) (plain : List ℕ) → plain_taken s used plain ≡ Done → Taken s used plain
+pub plain-is-taken : (s : Aps) (used : ℕ) (plain : List ℕ) → plain_taken s used plain ≡ (Ok tt) → Taken s used plain
 unfolding plain_taken kind_taken
 plain-is-taken s used plain e =
     let p = passed (not (eqb s.level 5) || ltb 16 used) _ _ e in
@@ -133,7 +132,7 @@ goes f extended plain room identifier e =
     let k = kept (sendable (row_in f) (is_command (get_or plain 0 0)) extended (length plain) room) (choice (identifier_for plain header)) identifier e in
     at f.found refl k.0 (numberless plain header identifier k.1)
   where
-    at : (t : Bool) → f.found ≡ t → row_sends (is_command (get_or plain 0 0)) extended (length plain) room (cond t (some f.row) none) ≡ Done → has_number (sent identifier) ≡ false → Goes f plain room identifier
+    at : (t : Bool) → f.found ≡ t → row_sends (is_command (get_or plain 0 0)) extended (length plain) room (cond t (Some f.row) None) ≡ (Ok tt) → has_number (sent identifier) ≡ false → Goes f plain room identifier
     at false h d n = let z : ◌≡◌ {A = ℕ} 0 1 = cc in absurd (omega arith)
     at true h d n =
         let p = passed (eqb f.row.outgoing spent) _ _ d in
@@ -153,25 +152,25 @@ module _ (s : Aps) (pairs : Pairs) (d : ℕ) (extended : Bool) (plain out : List
   -- what a choice leaves
   abbrev pub left : Option PairRow → Chosen → Secured
   left row (chosen.Refused why) = not_secured why out pairs
-  left none (chosen.Key identifier) = not_secured NoPair out pairs
-  left (some r) (chosen.Key identifier) = aps_done s pairs d r identifier plain out head
+  left None (chosen.Key identifier) = not_secured NoPair out pairs
+  left (Some r) (chosen.Key identifier) = aps_done s pairs d r identifier plain out head
 
   abbrev after : Outcome → Secured → Secured
-  after Done rest = rest
-  after (Refused why) rest = not_secured why out pairs
+  after (Ok tt) rest = rest
+  after (Err why) rest = not_secured why out pairs
 
   left-unless : (row : Option PairRow) (o : Outcome) (next : Chosen) → left row (unless o next) ≡ after o (left row next)
-  left-unless row Done next = refl
-  left-unless row (Refused why) next = refl
+  left-unless row (Ok tt) next = refl
+  left-unless row (Err why) next = refl
 
   -- the row, its counter, the sender and the room
   by_row : (row : Option PairRow) (identifier : KeyIdentifier)
       → aps_sent s pairs d extended identifier plain out head row ≡ left row (unless (sendable row (is_command control) extended (length plain) (length out)) (chosen.Key identifier))
-  by_row none identifier = refl
-  by_row (some r) identifier = at (eqb r.outgoing spent) (not (is_command control) && not extended) (ltb (length out) (length plain + 17))
+  by_row None identifier = refl
+  by_row (Some r) identifier = at (eqb r.outgoing spent) (not (is_command control) && not extended) (ltb (length out) (length plain + 17))
     where
       at : (t u v : Bool) → cond t (not_secured CounterSpent out pairs) (cond u (not_secured SenderAbsent out pairs) (cond v (not_secured NoRoom out pairs) (aps_done s pairs d r identifier plain out head)))
-          ≡ left (some r) (unless (cond t (Refused CounterSpent) (cond u (Refused SenderAbsent) (cond v (Refused NoRoom) Done))) (chosen.Key identifier))
+          ≡ left (Some r) (unless (cond t (Err CounterSpent) (cond u (Err SenderAbsent) (cond v (Err NoRoom) (Ok tt)))) (chosen.Key identifier))
       at true u v = refl
       at false true v = refl
       at false false true = refl
@@ -179,8 +178,8 @@ module _ (s : Aps) (pairs : Pairs) (d : ℕ) (extended : Bool) (plain out : List
 
   by_key : (o : Option KeyIdentifier)
       → aps_keyed s pairs d extended plain out head o ≡ left (first (may_use d) (in_use pairs)) (by_sending (sendable (first (may_use d) (in_use pairs)) (is_command control) extended (length plain) (length out)) (choice o))
-  by_key none = refl
-  by_key (some identifier) = by_row (first (may_use d) (in_use pairs)) identifier
+  by_key None = refl
+  by_key (Some identifier) = by_row (first (may_use d) (in_use pairs)) identifier
 
   -- a header that is cut, and a command without a first payload byte
   short : (ltb (length plain) head || (is_command control && ltb (length plain) (head + 1))) ≡ ltb (length plain) (shortest control)
@@ -199,7 +198,7 @@ module _ (s : Aps) (pairs : Pairs) (d : ℕ) (extended : Bool) (plain out : List
   by_kind rest = at (aps_taken control) (is_secured control) (ltb (length plain) (shortest control))
     where
       at : (t u v : Bool) → cond (not t || not u) (not_secured Unsupported out pairs) (cond v (not_secured Cut out pairs) rest)
-          ≡ after (cond (not t) (Refused Unsupported) (cond (not u) (Refused Unsupported) (cond v (Refused Cut) Done))) rest
+          ≡ after (cond (not t) (Err Unsupported) (cond (not u) (Err Unsupported) (cond v (Err Cut) (Ok tt)))) rest
       at false u v = refl
       at true false v = refl
       at true true true = refl
@@ -213,7 +212,7 @@ module _ (s : Aps) (pairs : Pairs) (d : ℕ) (extended : Bool) (plain out : List
   by-plain rest = at (not (eqb s.level 5)) (ltb 16 pairs.used) (ltb 1006 (length plain)) (eqb (length plain) 0)
     where
       at : (t u v w : Bool) → cond (t || (u || v)) (not_secured Unsupported out pairs) (cond w (not_secured Cut out pairs) (after (kind_taken control (length plain)) rest))
-          ≡ after (cond (t || u) (Refused Unsupported) (cond v (Refused Unsupported) (cond w (Refused Cut) (kind_taken control (length plain))))) rest
+          ≡ after (cond (t || u) (Err Unsupported) (cond v (Err Unsupported) (cond w (Err Cut) (kind_taken control (length plain))))) rest
       at true u v w = refl
       at false true v w = refl
       at false false true w = refl
@@ -229,14 +228,14 @@ module _ (s : Aps) (pairs : Pairs) (d : ℕ) (extended : Bool) (plain out : List
 -- ---- the rows
 
 row-answered : (o : Option PairRow) → row_in (answered_row o) ≡ o
-row-answered none = refl
-row-answered (some r) = refl
+row-answered None = refl
+row-answered (Some r) = refl
 
 row_is : (pairs : Pairs) (d : ℕ) → row_in (usable_found pairs d) ≡ first (may_use d) (in_use pairs)
 unfolding usable_found
 row_is pairs d = row-answered (first (may_use d) (in_use pairs))
 
-advances : (pairs : Pairs) (d : ℕ) (r : PairRow) → pairs.used ≤ 16 → first (may_use d) (in_use pairs) ≡ some r → (r.outgoing ≡ spent → ⊥)
+advances : (pairs : Pairs) (d : ℕ) (r : PairRow) → pairs.used ≤ 16 → first (may_use d) (in_use pairs) ≡ Some r → (r.outgoing ≡ spent → ⊥)
     → (advanced pairs d).pairs ≡ holding (at_first (may_use d) raised (in_use pairs)) pairs
 unfolding advanced
 advances pairs d r few e n = rw (le-ltb 16 pairs.used few, e, ne_eqb r.outgoing spent n)
@@ -268,7 +267,7 @@ module _ (s : Aps) (pairs : Pairs) (d : ℕ) (extended : Bool) (plain out : List
       let k = chose (plain_taken s pairs.used plain) (sent_by (row_in f) extended plain (length out)) identifier e in
       let t = plain-is-taken s pairs.used plain k.0 in
       let g = goes f extended plain (length out) identifier k.1 in
-      let r : row_in f ≡ some f.row = rw g.found in
+      let r : row_in f ≡ Some f.row = rw g.found in
       record {
         taken = t;
         goes-out = g;
@@ -281,9 +280,9 @@ module _ (s : Aps) (pairs : Pairs) (d : ℕ) (extended : Bool) (plain out : List
     pub identifier : KeyIdentifier
     pub is-ready : Ready identifier
 
-  pub went-out : (start len : ℕ) → (secure_aps s pairs d extended plain out).answer ≡ answer.Done start len → Sent
+  pub went-out : (start len : ℕ) → (secure_aps s pairs d extended plain out).answer ≡ Ok (answer.Done start len) → Sent
   went-out start len e = at judged refl (ap (λ (x : Secured). x.answer) decides ∙ e)
     where
-      at : (j : Chosen) → judged ≡ j → (left s pairs d extended plain out (row_in f) j).answer ≡ answer.Done start len → Sent
+      at : (j : Chosen) → judged ≡ j → (left s pairs d extended plain out (row_in f) j).answer ≡ Ok (answer.Done start len) → Sent
       at (chosen.Refused why) h e' = let z : ◌≡◌ {A = ℕ} 0 1 = cc in absurd (omega arith)
       at (chosen.Key identifier) h e' = record { identifier = identifier; is-ready = ready identifier h }

@@ -1,8 +1,9 @@
 -- Opening APS (document 01, 'Order of checks'): a judgement that only reads, and then one commit.
+use Rattle.std.specs.Prelude.{Ok}
 use Rattle.std.specs.Prelude.{Bool, cond, not, ◌||◌, List, ℕ, ◌+◌, eqb, ltb, length}
 use Rattle.std.specs.Prelude.{Option, None, Some}
-use Rattle.answer.specs.declared.Answer.{Answer}
-use Rattle.answer.specs.declared.Answer.TheVariants.{Done}
+use Rattle.answer.specs.Numbers.{Answer}
+use Rattle.answer.specs.declared.Accepted.TheVariants.{Done}
 use Rattle.answer.specs.declared.Refusal.TheVariants.{Unsupported, Cut, KeyNotAllowed, CounterRepeated, CounterBehind, WrongTag, TableFull}
 use Rattle.cells.specs.Rows.{Reaction, leave, become, Settled, find, settle}
 use Rattle.aib.specs.declared.pairs.PairRow.{PairRow}
@@ -41,7 +42,7 @@ aps_judged c held b =
     (cond chosen.refused (leave (refused KeyNotAllowed b))
     (cond (not (vouches key c.sender c.counter c.at c.payload b)) (leave (refused WrongTag b))
     (become (heard held c.counter)
-    (record { answer = Done c.payload (payload_size c.payload b); frame = opened_octets key c.sender c.counter c.at c.payload b })
+    (record { answer = Ok (Done c.payload (payload_size c.payload b)); frame = opened_octets key c.sender c.counter c.at c.payload b })
     (refused TableFull b))))))
 
 -- what a call leaves: answer, the frame's octets, and the pairs

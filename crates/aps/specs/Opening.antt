@@ -1,10 +1,10 @@
 -- The steps by which the code comes to `open_aps`.
+use Rattle.std.specs.Prelude.{Err, Ok}
 use Rattle.std.specs.Prelude.{Bool, cond, not, List, ℕ, ◌+◌, ltb}
 use Rattle.std.specs.Prelude.{Option, None, Some}
-use Rattle.answer.specs.declared.Answer.{Answer}
-use Rattle.answer.specs.declared.Answer.TheVariants as answer
-use Rattle.answer.specs.declared.Outcome.{Outcome}
-use Rattle.answer.specs.declared.Outcome.TheVariants.{Done, Refused}
+use Rattle.answer.specs.Numbers.{Answer}
+use Rattle.answer.specs.declared.Accepted.TheVariants as answer
+use Rattle.answer.specs.Numbers.{Outcome}
 use Rattle.answer.specs.declared.Refusal.TheVariants.{Cut, CounterRepeated, CounterBehind, WrongTag, TableFull}
 use Rattle.cells.specs.Rows.{Reaction, leave, become, find, settle}
 use Rattle.aib.specs.declared.pairs.Pairs.{Pairs}
@@ -23,16 +23,16 @@ held_in f = cond f.found (Some (cell_in f.row)) None
 -- the tests before the tag: the counter held for the device, and the frame's size
 unfoldable pub allowed : Claim → Option ℕ → ℕ → Outcome
 allowed c held size =
-    cond (equals held c.counter) (Refused CounterRepeated)
-    (cond (below held c.counter) (Refused CounterBehind)
-    (cond (ltb size (c.payload + tag_size)) (Refused Cut) Done))
+    cond (equals held c.counter) (Err CounterRepeated)
+    (cond (below held c.counter) (Err CounterBehind)
+    (cond (ltb size (c.payload + tag_size)) (Err Cut) (Ok tt)))
 
 -- the tag, and only then the room for a new row
 unfoldable pub tried : Claim → List ℕ → Bool → List ℕ → Heard
 tried c key room b =
     cond (not (vouches key c.sender c.counter c.at c.payload b)) (refused WrongTag b)
     (cond room
-    (record { answer = answer.Done c.payload (payload_size c.payload b); frame = opened_octets key c.sender c.counter c.at c.payload b })
+    (record { answer = Ok (answer.Done c.payload (payload_size c.payload b)); frame = opened_octets key c.sender c.counter c.at c.payload b })
     (refused TableFull b))
 
 -- what a reaction answers where there is room for a new row, and where there is none
@@ -42,9 +42,9 @@ replied room (become c out full) = cond room out full
 
 -- only a frame that was opened changes a row
 abbrev pub kept : Pairs → Claim → Answer → Pairs
-kept pairs c (answer.Done start len) = (recorded pairs c.sender c.counter).pairs
-kept pairs c (answer.Plain start len) = pairs
-kept pairs c (answer.Refused why) = pairs
+kept pairs c (Ok (answer.Done start len)) = (recorded pairs c.sender c.counter).pairs
+kept pairs c (Ok (answer.Plain start len)) = pairs
+kept pairs c (Err why) = pairs
 
 unfoldable pub committed : Pairs → Claim → List ℕ → Opened
 committed pairs c b =

@@ -1,8 +1,9 @@
 -- Securing APS (document 01, 'Order of checks'), from a plain frame to an output buffer.
+use Rattle.std.specs.Prelude.{Err, Ok}
 use Rattle.std.specs.Prelude.{Bool, cond, not, ◌||◌, ◌&&◌, List, ◌++◌, ℕ, ◌+◌, eqb, ltb, length, take, drop, get_or}
 use Rattle.std.specs.Prelude.{Option, None, Some}
-use Rattle.answer.specs.declared.Answer.{Answer}
-use Rattle.answer.specs.declared.Answer.TheVariants.{Done, Refused}
+use Rattle.answer.specs.Numbers.{Answer}
+use Rattle.answer.specs.declared.Accepted.TheVariants.{Done}
 use Rattle.answer.specs.declared.Refusal.{Refusal}
 use Rattle.answer.specs.declared.Refusal.TheVariants.{Unsupported, Cut, NoPair, CounterSpent, SenderAbsent, NoRoom}
 use Rattle.aib.specs.declared.pairs.PairRow.{PairRow}
@@ -28,7 +29,7 @@ pub record Secured : Type 0 where
 
 -- a refusal changes nothing
 abbrev pub not_secured : Refusal → List ℕ → Pairs → Secured
-not_secured why out pairs = record { answer = Refused why; out = out; pairs = pairs }
+not_secured why out pairs = record { answer = Err why; out = out; pairs = pairs }
 
 -- ---- which key: the link key itself, except Transport-Key type 1 (key-transport), and types 3 and 4 (key-load)
 
@@ -58,7 +59,7 @@ aps_on_air s row identifier plain header =
 -- done: output bytes past the finished frame stay unchanged, and the row that was used has its outgoing counter raised by 1
 abbrev pub aps_done : Aps → Pairs → ℕ → PairRow → KeyIdentifier → List ℕ → List ℕ → ℕ → Secured
 aps_done s pairs device row identifier plain out header = record {
-  answer = Done 0 (length plain + aps_added);
+  answer = Ok (Done 0 (length plain + aps_added));
   out = aps_on_air s row identifier plain header ++ drop (length plain + aps_added) out;
   pairs = holding (at_first (may_use device) raised (in_use pairs)) pairs;
 }

@@ -1,8 +1,8 @@
 -- The steps by which the code comes to `secure_aps`: all checks first, as one judgement.
+use Rattle.std.specs.Prelude.{Err, Ok}
 use Rattle.std.specs.Prelude.{Bool, cond, not, ◌||◌, ◌&&◌, List, ℕ, ◌+◌, eqb, ltb, length, get_or}
 use Rattle.std.specs.Prelude.{Option, None, Some}
-use Rattle.answer.specs.declared.Outcome.{Outcome}
-use Rattle.answer.specs.declared.Outcome.TheVariants.{Done, Refused}
+use Rattle.answer.specs.Numbers.{Outcome}
 use Rattle.answer.specs.declared.Refusal.TheVariants.{Unsupported, Cut, NoPair, CounterSpent, SenderAbsent, NoRoom}
 use Rattle.aib.specs.declared.pairs.PairRow.{PairRow}
 use Rattle.aib.specs.declared.search.PairFound.{PairFound}
@@ -30,34 +30,34 @@ shortest control = cond (is_command control) (aps_length control + 1) (aps_lengt
 
 unfoldable pub kind_taken : ℕ → ℕ → Outcome
 kind_taken control size =
-    cond (not (aps_taken control)) (Refused Unsupported)
-    (cond (not (is_secured control)) (Refused Unsupported)
-    (cond (ltb size (shortest control)) (Refused Cut) Done))
+    cond (not (aps_taken control)) (Err Unsupported)
+    (cond (not (is_secured control)) (Err Unsupported)
+    (cond (ltb size (shortest control)) (Err Cut) (Ok tt)))
 
 unfoldable pub plain_taken : Aps → ℕ → List ℕ → Outcome
 plain_taken s used plain =
-    cond (not (eqb s.level level) || ltb 16 used) (Refused Unsupported)
-    (cond (ltb 1006 (length plain)) (Refused Unsupported)
-    (cond (eqb (length plain) 0) (Refused Cut) (kind_taken (get_or plain 0 0) (length plain))))
+    cond (not (eqb s.level level) || ltb 16 used) (Err Unsupported)
+    (cond (ltb 1006 (length plain)) (Err Unsupported)
+    (cond (eqb (length plain) 0) (Err Cut) (kind_taken (get_or plain 0 0) (length plain))))
 
 -- the row that a search found
 abbrev pub row_in : PairFound → Option PairRow
 row_in f = cond f.found (Some f.row) None
 
 abbrev pub row_sends : Bool → Bool → ℕ → ℕ → Option PairRow → Outcome
-row_sends command extended size room None = Refused NoPair
+row_sends command extended size room None = Err NoPair
 row_sends command extended size room (Some row) =
-    cond (eqb row.outgoing spent) (Refused CounterSpent)
-    (cond (not command && not extended) (Refused SenderAbsent)
-    (cond (ltb room (size + aps_added)) (Refused NoRoom) Done))
+    cond (eqb row.outgoing spent) (Err CounterSpent)
+    (cond (not command && not extended) (Err SenderAbsent)
+    (cond (ltb room (size + aps_added)) (Err NoRoom) (Ok tt)))
 
 abbrev pub sendable : Option PairRow → Bool → Bool → ℕ → ℕ → Outcome
 sendable row command extended size room = row_sends command extended size room row
 
 -- one check after another: the first refusal counts
 abbrev pub unless : Outcome → Chosen → Chosen
-unless Done next = next
-unless (Refused why) next = chosen.Refused why
+unless (Ok tt) next = next
+unless (Err why) next = chosen.Refused why
 
 abbrev pub by_sending : Outcome → Chosen → Chosen
 by_sending o (chosen.Refused why) = chosen.Refused why

@@ -7,7 +7,7 @@ use native.Mathlib.Omega.{arith}
 use lib.Dec.{eqb, ltb}
 use lib.ListN.{length}
 use borrow.Author.Tests.{ltb-false}
-use Rattle.answer.specs.declared.Answer.{Answer}
+use Rattle.answer.specs.Numbers.{Answer}
 use Rattle.auxiliary_header.specs.declared.auxiliary.Auxiliary.{Auxiliary}
 use Rattle.auxiliary_header.specs.declared.auxiliary.AuxiliaryRead.{AuxiliaryRead}
 use Rattle.auxiliary_header.specs.declared.auxiliary.AuxiliaryRead.TheVariants as auxiliary

@@ -1,7 +1,8 @@
 -- What a frame's headers settle, and what it claims where they do not (document 01, 'Order of checks', opening, up to the keys).
+use Rattle.std.specs.Prelude.{Err, Ok}
 use Rattle.std.specs.Prelude.{Bool, true, false, cond, not, List, ℕ, ◌-◌, eqb, ltb, length}
 use Rattle.std.specs.Prelude.{Option, None, Some}
-use Rattle.answer.specs.declared.Answer.TheVariants.{Plain, Refused}
+use Rattle.answer.specs.declared.Accepted.TheVariants.{Plain}
 use Rattle.answer.specs.declared.Refusal.{Refusal}
 use Rattle.answer.specs.declared.Refusal.TheVariants.{Unsupported, Cut, CounterSpent, SenderAbsent, KeyNotAllowed, NoNetworkKey, DeviceAbsent}
 use Rattle.auxiliary_header.specs.declared.auxiliary.Auxiliary.{Auxiliary}
@@ -30,7 +31,7 @@ abbrev pub spent : ℕ
 spent = 4294967295
 
 abbrev pub refuse : Refusal → Who
-refuse why = Told (Refused why)
+refuse why = Told (Err why)
 
 -- the key number that a frame names
 abbrev pub is_network : KeyUsed → Bool
@@ -66,7 +67,7 @@ nwk_auxiliary keys at (auxiliary.Whole a) = cond (eqb a.counter spent) (refuse C
 -- Header cut: 2. Security bit clear: 1.
 abbrev pub nwk_header : NetworkKeys → List ℕ → NwkRead → Who
 nwk_header keys b nwk.Cut = refuse Cut
-nwk_header keys b (nwk.Whole h) = cond (not h.secured) (Told (Plain h.len (length b - h.len))) (nwk_auxiliary keys h.len (auxiliary_at b h.len))
+nwk_header keys b (nwk.Whole h) = cond (not h.secured) (Told (Ok (Plain h.len (length b - h.len)))) (nwk_auxiliary keys h.len (auxiliary_at b h.len))
 
 -- Over 1,024 bytes: 7. Under 4 bytes: 2.
 unfoldable pub nwk_who : NetworkKeys → List ℕ → Who
@@ -88,7 +89,7 @@ aps_auxiliary at (auxiliary.Whole a) = cond (eqb a.counter spent) (refuse Counte
 abbrev pub aps_header : List ℕ → ApsRead → Who
 aps_header b aps.NotTaken = refuse Unsupported
 aps_header b aps.Cut = refuse Cut
-aps_header b (aps.Whole h) = cond (not h.secured) (Told (Plain h.len (length b - h.len))) (aps_auxiliary h.len (auxiliary_at b h.len))
+aps_header b (aps.Whole h) = cond (not h.secured) (Told (Ok (Plain h.len (length b - h.len)))) (aps_auxiliary h.len (auxiliary_at b h.len))
 
 -- Over 1,024 bytes: 7. Under 4 bytes: 2.
 unfoldable pub aps_who : List ℕ → Who

@@ -7,7 +7,7 @@ use Rattle.std.proofs.Common.{sym, ap, ◌∙◌}
 use contract.Lifetimes.{Lfts}
 use denote.Triple.Entry.{Args, Res}
 use denote.Triple.Clauses.{Lasts, at_exit}
-use Rattle.answer.specs.declared.Outcome.{Outcome}
+use Rattle.answer.specs.Numbers.{Outcome}
 use Rattle.answer.specs.Numbers.{when_done}
 use Rattle.nib.proofs.CounterLaws as counters
 use Rattle.nib.specs.Sending.{taken}

@@ -1,19 +1,18 @@
 -- The two halves make up the opening: a judgement is a refusal or an opening, and the commit by its answer is the table's `settle`.
 -- Assumes nothing.
+use Rattle.std.specs.Prelude.{Err, None, Ok, Option, Some}
 use mathlib.Core.Path.{◌≡◌, refl, sym, ap, ◌∙◌}
 use mathlib.Core.Bool.{Bool, true, false, cond, not, ◌||◌}
 use mathlib.Core.List.{List}
-use mathlib.Core.Option.{Option, none, some}
 use Prim.Native.Nat.{ℕ, ◌+◌, ◌-◌, ◌≤◌}
 use native.Mathlib.Omega.{arith}
 use lib.Dec.{eqb, ltb}
 use lib.ListN.{length, take, take-append-drop}
 use lib.Seq.{length-take-le}
 use borrow.Author.Tests.{le-ltb, ltb-false}
-use Rattle.answer.specs.declared.Answer.{Answer}
-use Rattle.answer.specs.declared.Answer.TheVariants as answer
-use Rattle.answer.specs.declared.Outcome.{Outcome}
-use Rattle.answer.specs.declared.Outcome.TheVariants.{Done, Refused}
+use Rattle.answer.specs.Numbers.{Answer}
+use Rattle.answer.specs.declared.Accepted.TheVariants as answer
+use Rattle.answer.specs.Numbers.{Outcome}
 use Rattle.answer.specs.declared.Refusal.{Refusal}
 use Rattle.answer.specs.declared.Refusal.TheVariants.{Unsupported, Cut, CounterRepeated, CounterBehind, WrongTag, TableFull}
 use Rattle.cells.specs.Rows.{Reaction, leave, become, find, room, settle}
@@ -63,37 +62,37 @@ module _ (keys : NetworkKeys) (c : Claim) (s : Standing) (b : List ℕ) where
       told-chain (equals (counter_in (held_of s)) c.counter) (below (counter_in (held_of s)) c.counter) (ltb (length b) (c.payload + tag_size))
       (vouches key c.sender c.counter c.at c.payload b) s.room (counting c.counter) (refused CounterRepeated b) (refused CounterBehind b) (refused Cut b)
       (refused WrongTag b)
-      (record { answer = answer.Done c.payload (payload_size c.payload b); frame = opened_octets key c.sender c.counter c.at c.payload b })
+      (record { answer = Ok (answer.Done c.payload (payload_size c.payload b)); frame = opened_octets key c.sender c.counter c.at c.payload b })
       (refused TableFull b)
 
-  never : {X : Type 0} {r : Refusal} → ◌≡◌ {A = Outcome} Done (Refused r) → X
+  never : {X : Type 0} {r : Refusal} → ◌≡◌ {A = Outcome} (Ok tt) (Err r) → X
   never e = let z : ◌≡◌ {A = ℕ} 0 1 = cc in absurd (omega arith)
 
-  pub judged-stale : (why : Refusal) → freshness s c.counter ≡ Refused why → judged_heard keys c s b ≡ refused why b
+  pub judged-stale : (why : Refusal) → freshness s c.counter ≡ Err why → judged_heard keys c s b ≡ refused why b
   judged-stale why e = judged-tested ∙ go s.found e
     where
-      two : (x y : Bool) → cond x (Refused CounterRepeated) (cond y (Refused CounterBehind) Done) ≡ Refused why
+      two : (x y : Bool) → cond x (Err CounterRepeated) (cond y (Err CounterBehind) (Ok tt)) ≡ Err why
           → cond x (refused CounterRepeated b) (cond y (refused CounterBehind b) (judged_fresh keys c s.room b)) ≡ refused why b
       two true y q = let w : CounterRepeated ≡ why = cc in ap (λ (z : Refusal). refused z b) w
       two false true q = let w : CounterBehind ≡ why = cc in ap (λ (z : Refusal). refused z b) w
       two false false q = never q
 
-      go : (f : Bool) → cond (not f) Done (cond (eqb c.counter s.row.counter) (Refused CounterRepeated) (cond (ltb c.counter s.row.counter) (Refused CounterBehind) Done)) ≡ Refused why
-          → tested (counter_in (cond f (some (row_cell s.row)) none)) ≡ refused why b
+      go : (f : Bool) → cond (not f) (Ok tt) (cond (eqb c.counter s.row.counter) (Err CounterRepeated) (cond (ltb c.counter s.row.counter) (Err CounterBehind) (Ok tt))) ≡ Err why
+          → tested (counter_in (cond f (Some (row_cell s.row)) None)) ≡ refused why b
       go false q = never q
       go true q = two (eqb c.counter s.row.counter) (ltb c.counter s.row.counter) q
 
-  pub judged-as-fresh : freshness s c.counter ≡ Done → judged_heard keys c s b ≡ judged_fresh keys c s.room b
+  pub judged-as-fresh : freshness s c.counter ≡ (Ok tt) → judged_heard keys c s b ≡ judged_fresh keys c s.room b
   judged-as-fresh e = judged-tested ∙ go s.found e
     where
-      two : (x y : Bool) → cond x (Refused CounterRepeated) (cond y (Refused CounterBehind) Done) ≡ Done
+      two : (x y : Bool) → cond x (Err CounterRepeated) (cond y (Err CounterBehind) (Ok tt)) ≡ (Ok tt)
           → cond x (refused CounterRepeated b) (cond y (refused CounterBehind b) (judged_fresh keys c s.room b)) ≡ judged_fresh keys c s.room b
       two true y q = never (sym q)
       two false true q = never (sym q)
       two false false q = refl
 
-      go : (f : Bool) → cond (not f) Done (cond (eqb c.counter s.row.counter) (Refused CounterRepeated) (cond (ltb c.counter s.row.counter) (Refused CounterBehind) Done)) ≡ Done
-          → tested (counter_in (cond f (some (row_cell s.row)) none)) ≡ judged_fresh keys c s.room b
+      go : (f : Bool) → cond (not f) (Ok tt) (cond (eqb c.counter s.row.counter) (Err CounterRepeated) (cond (ltb c.counter s.row.counter) (Err CounterBehind) (Ok tt))) ≡ (Ok tt)
+          → tested (counter_in (cond f (Some (row_cell s.row)) None)) ≡ judged_fresh keys c s.room b
       go false q = refl
       go true q = two (eqb c.counter s.row.counter) (ltb c.counter s.row.counter) q
 
@@ -106,7 +105,7 @@ module _ (keys : NetworkKeys) (c : Claim) (b : List ℕ) (enough : c.payload + 4
 
   fresh-is : (t u : Bool) → room ≡ t → r ≡ u → judged_fresh keys c room b
       ≡ cond (not u) (refused WrongTag b)
-      (cond t (record { answer = answer.Done c.payload (payload_size c.payload b); frame = opened_octets found.row.key c.sender c.counter c.at c.payload b }) (refused TableFull b))
+      (cond t (record { answer = Ok (answer.Done c.payload (payload_size c.payload b)); frame = opened_octets found.row.key c.sender c.counter c.at c.payload b }) (refused TableFull b))
   unfolding judged_fresh
   fresh-is t u et eu = rw (le-ltb (length b) (c.payload + 4) enough, ← is_key, ← tried, eu, et)
 
@@ -114,17 +113,17 @@ module _ (keys : NetworkKeys) (c : Claim) (b : List ℕ) (enough : c.payload + 4
   abbrev Gives : Answer → List ℕ → Type 0
   Gives a x = (a ≡ (judged_fresh keys c room b).answer) × (x ≡ (judged_fresh keys c room b).frame)
 
-  pub wrong-gives : (x : List ℕ) → r ≡ false → x ≡ b → Gives (answer.Refused WrongTag) x
+  pub wrong-gives : (x : List ℕ) → r ≡ false → x ≡ b → Gives (Err WrongTag) x
   wrong-gives x e l = let h = fresh-is room false refl e in (rw h, l ∙ sym (ap (λ (y : Heard). y.frame) h))
 
-  pub full-gives : room ≡ false → r ≡ true → Gives (answer.Refused TableFull) b
+  pub full-gives : room ≡ false → r ≡ true → Gives (Err TableFull) b
   full-gives t e = let h = fresh-is false true t e in (rw h, rw h)
 
   pub opens-gives : (x : List ℕ) → room ≡ true → r ≡ true → length x ≡ length b → x ≡ opened_octets found.row.key c.sender c.counter c.at c.payload b
-      → Gives (answer.Done c.payload (length x - 4 - c.payload)) x
+      → Gives (Ok (answer.Done c.payload (length x - 4 - c.payload))) x
   opens-gives x t e l o =
       let h = fresh-is true true t e in
-      (ap (λ (m : ℕ). answer.Done c.payload (m - 4 - c.payload)) l ∙ sym (ap (λ (y : Heard). y.answer) h), o ∙ sym (ap (λ (y : Heard). y.frame) h))
+      (ap (λ (m : ℕ). (Ok (answer.Done c.payload (m - 4 - c.payload)))) l ∙ sym (ap (λ (y : Heard). y.answer) h), o ∙ sym (ap (λ (y : Heard). y.frame) h))
 
 -- what is judged of a claim, by what the code's calls say
 module _ (s : Nwk) (standing : Standing) (b : List ℕ) (c : Claim) where
@@ -147,7 +146,7 @@ module _ (s : Nwk) (standing : Standing) (b : List ℕ) (c : Claim) where
 -- a judgement of the frame b: a refusal, or an opening that wants the cell n in the row
 data Judgement (n : Cell) (b : List ℕ) : Reaction Heard Cell → Type 0 where
   refusal : (why : Refusal) → Judgement n b (leave (refused why b))
-  opening : (start len : ℕ) (f : List ℕ) → Judgement n b (become n (record { answer = answer.Done start len; frame = f }) (refused TableFull b))
+  opening : (start len : ℕ) (f : List ℕ) → Judgement n b (become n (record { answer = Ok (answer.Done start len); frame = f }) (refused TableFull b))
 
 judgement : (keys : NetworkKeys) (c : Claim) (held : Option Cell) (b : List ℕ) → Judgement (counting c.counter) b (nwk_judged keys c held b)
 unfolding nwk_judged
@@ -160,7 +159,7 @@ judgement keys c held b = go (equals (counter_in held) c.counter) (below (counte
         (cond l (leave (refused Cut b))
         (cond (not v) (leave (refused WrongTag b))
         (become (counting c.counter)
-        (record { answer = answer.Done c.payload (payload_size c.payload b); frame = opened_octets (key_found keys (number_of c.key)).row.key c.sender c.counter c.at c.payload b })
+        (record { answer = Ok (answer.Done c.payload (payload_size c.payload b)); frame = opened_octets (key_found keys (number_of c.key)).row.key c.sender c.counter c.at c.payload b })
         (refused TableFull b))))))
     go true y l v = refusal CounterRepeated
     go false true l v = refusal CounterBehind
@@ -188,7 +187,7 @@ module _ (rows : List CounterRow) (used : ℕ) (k : Pair) (fits : used ≤ capac
   commits n b r (refusal why) = record { told = refl; used-after = in_use; rows-after = same_rows }
   commits n b r (opening start len f) = go (room counter_rows (capacity (length rows)) (take used rows) k) refl
     where
-      go : (t : Bool) → room counter_rows (capacity (length rows)) (take used rows) k ≡ t → Committed n (become n (record { answer = answer.Done start len; frame = f }) (refused TableFull b))
+      go : (t : Bool) → room counter_rows (capacity (length rows)) (take used rows) k ≡ t → Committed n (become n (record { answer = Ok (answer.Done start len); frame = f }) (refused TableFull b))
       go true e =
           let fine : overfull rows used ≡ false = le-ltb (capacity (length rows)) used fits in
           record { told = refl; used-after = rw (e, fine); rows-after = rw (e, fine) }
@@ -196,8 +195,8 @@ module _ (rows : List CounterRow) (used : ℕ) (k : Pair) (fits : used ≤ capac
 
 -- what is held is read back as it was found
 held_found : (room : Bool) (k : Pair) (o : Option Cell) → (held_of (standing room k o) ≡ o) × ((standing room k o).room ≡ room)
-held_found room k none = (refl, refl)
-held_found room k (some c) = (refl, refl)
+held_found room k None = (refl, refl)
+held_found room k (Some c) = (refl, refl)
 
 -- an opening, from what was heard
 abbrev after : Nwk → List CounterRow → ℕ → Pair → Cell → Heard → Opened
@@ -285,7 +284,7 @@ module _ (s : Nwk) (rows : List CounterRow) (used : ℕ) (b : List ℕ) where
   result-at (Told a) e = refl
   result-at (Claims c) e =
       let h : Heard = judged_heard s.keys c (held_for rows used (pair_of (Claims c))) b in
-      let q = either_way (is_opened h.answer) (placed rows used (pair_of (Claims c)) (counting c.counter)) (record { outcome = Done; used = used; rows = rows }) in
+      let q = either_way (is_opened h.answer) (placed rows used (pair_of (Claims c)) (counting c.counter)) (record { outcome = (Ok tt); used = used; rows = rows }) in
       (λ i. record { answer = h.answer; frame = h.frame; rows = q.0 i; used = q.1 i; active = active_after s.active (number_of c.key) h.answer }) ∙ sym (placed-is s rows used b c (claims c e).0)
 
   -- the calls' answers: the caller, what is held for it, the judgement and the frame after it

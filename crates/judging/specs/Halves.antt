@@ -1,11 +1,11 @@
 -- The two halves of an opening as the code has them: the judgement by what is held, and the commit where it opens. That they make up
 -- `open_nwk` is shown in proofs/.
+use Rattle.std.specs.Prelude.{Err, Ok}
 use Rattle.std.specs.Prelude.{Bool, true, false, cond, not, ◌||◌, List, ℕ, ◌+◌, eqb, ltb, length}
 use Rattle.std.specs.Prelude.{Option, None, Some}
-use Rattle.answer.specs.declared.Answer.{Answer}
-use Rattle.answer.specs.declared.Answer.TheVariants as answer
-use Rattle.answer.specs.declared.Outcome.{Outcome}
-use Rattle.answer.specs.declared.Outcome.TheVariants.{Done, Refused}
+use Rattle.answer.specs.Numbers.{Answer}
+use Rattle.answer.specs.declared.Accepted.TheVariants as answer
+use Rattle.answer.specs.Numbers.{Outcome}
 use Rattle.answer.specs.declared.Refusal.TheVariants.{Unsupported, Cut, CounterRepeated, CounterBehind, WrongTag, TableFull}
 use Rattle.cells.specs.Rows.{Reaction, leave, become}
 use Rattle.nib.specs.declared.counters.Standing.{Standing}
@@ -38,7 +38,7 @@ caller_of (Claims c) = record { who = Claims c; number = number_of c.key; sender
 
 -- the tests of the counter
 abbrev pub freshness : Standing → ℕ → Outcome
-freshness s c = cond (not s.found) Done (cond (eqb c s.row.counter) (Refused CounterRepeated) (cond (ltb c s.row.counter) (Refused CounterBehind) Done))
+freshness s c = cond (not s.found) (Ok tt) (cond (eqb c s.row.counter) (Err CounterRepeated) (cond (ltb c s.row.counter) (Err CounterBehind) (Ok tt)))
 
 -- what is held, as the judgement reads it
 abbrev pub held_of : Standing → Option Cell
@@ -59,13 +59,13 @@ judged_fresh keys c room b =
     cond (ltb (length b) (c.payload + tag_size)) (refused Cut b)
     (cond (not (vouches key c.sender c.counter c.at c.payload b)) (refused WrongTag b)
     (cond room
-    (record { answer = answer.Done c.payload (payload_size c.payload b); frame = opened_octets key c.sender c.counter c.at c.payload b })
+    (record { answer = Ok (answer.Done c.payload (payload_size c.payload b)); frame = opened_octets key c.sender c.counter c.at c.payload b })
     (refused TableFull b)))
 
 abbrev pub is_opened : Answer → Bool
-is_opened (answer.Done start len) = true
-is_opened (answer.Plain start len) = false
-is_opened (answer.Refused why) = false
+is_opened (Ok (answer.Done start len)) = true
+is_opened (Ok (answer.Plain start len)) = false
+is_opened (Err why) = false
 
 -- the frame's octets after it, and what is judged
 abbrev pub heard_frame : Nwk → Who → Standing → List ℕ → List ℕ

@@ -1,8 +1,9 @@
 -- Opening NWK (document 01, 'Order of checks'): a judgement that only reads, and then one commit.
+use Rattle.std.specs.Prelude.{Err, Ok}
 use Rattle.std.specs.Prelude.{Bool, cond, not, ◌||◌, List, ℕ, ◌+◌, eqb, ltb, length, take}
 use Rattle.std.specs.Prelude.{Option}
-use Rattle.answer.specs.declared.Answer.{Answer}
-use Rattle.answer.specs.declared.Answer.TheVariants.{Done, Plain, Refused}
+use Rattle.answer.specs.Numbers.{Answer}
+use Rattle.answer.specs.declared.Accepted.TheVariants.{Done, Plain}
 use Rattle.answer.specs.declared.Refusal.TheVariants.{Unsupported, Cut, CounterRepeated, CounterBehind, WrongTag, TableFull}
 use Rattle.cells.specs.Rows.{Reaction, leave, become, Settled, find, settle}
 use Rattle.nib.specs.declared.counters.CounterRow.{CounterRow}
@@ -29,7 +30,7 @@ nwk_judged keys c held b =
     (cond (ltb (length b) (c.payload + tag_size)) (leave (refused Cut b))
     (cond (not (vouches key c.sender c.counter c.at c.payload b)) (leave (refused WrongTag b))
     (become (counting c.counter)
-    (record { answer = Done c.payload (payload_size c.payload b); frame = opened_octets key c.sender c.counter c.at c.payload b })
+    (record { answer = Ok (Done c.payload (payload_size c.payload b)); frame = opened_octets key c.sender c.counter c.at c.payload b })
     (refused TableFull b)))))
 
 -- what a call leaves: answer, the frame's octets, the rows lent and how many are in use, and the active number
@@ -46,9 +47,9 @@ unchanged s rows used h = record { answer = h.answer; frame = h.frame; rows = ro
 
 -- if a frame opened, and its key number is (active + 1) mod 256, that becomes the active number
 abbrev pub active_after : ℕ → ℕ → Answer → ℕ
-active_after active n (Done start len) = turn active n
-active_after active n (Plain start len) = active
-active_after active n (Refused why) = active
+active_after active n (Ok (Done start len)) = turn active n
+active_after active n (Ok (Plain start len)) = active
+active_after active n (Err why) = active
 
 -- the commit
 abbrev pub nwk_committed : Nwk → List CounterRow → Pair → Settled Heard CounterRow → Opened

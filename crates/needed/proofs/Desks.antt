@@ -1,9 +1,10 @@
 -- Desks with the two frames of OnAir.antt, opened forth and back, and what they end with: computed. Assumes nothing.
+use Rattle.std.specs.Prelude.{Err, Ok}
 use Rattle.std.specs.Prelude.{◌≡◌, refl, ℕ}
 use Rattle.std.proofs.Common.{sym, ap, ◌∙◌, arith}
 use Rattle.std.specs.Prelude.{Some}
 use Rattle.std.proofs.lemmas.Option.{same_Some}
-use Rattle.answer.specs.declared.Answer.TheVariants.{Done, Refused}
+use Rattle.answer.specs.declared.Accepted.TheVariants.{Done}
 use Rattle.answer.specs.declared.Refusal.TheVariants.{CounterRepeated, TableFull}
 use Rattle.cells.specs.Lists.{any}
 use Rattle.cells.specs.Rows.{find, settle}
@@ -51,19 +52,19 @@ unfolding open_all open_nwk nwk_placed find any settle turn
 active-back = rw (three-claims keys has-three, three-opens keys has-three, two-claims keys has-two, two-opens keys has-two)
 
 -- with one free row for the two: the frame in buffer 1 is refused if it comes second, and opens if it comes first
-pub full-forth : (opened (start 2 1 both) forth).told 1 ≡ saying (Refused TableFull)
+pub full-forth : (opened (start 2 1 both) forth).told 1 ≡ saying (Err TableFull)
 unfolding open_all open_nwk nwk_placed find any settle
 full-forth = rw (two-claims keys has-two, two-opens keys has-two, three-claims keys has-three, three-opens keys has-three)
 
-pub full_back : (opened (start 2 1 both) back).told 1 ≡ saying (Done 22 0)
+pub full_back : (opened (start 2 1 both) back).told 1 ≡ saying (Ok (Done 22 0))
 unfolding open_all open_nwk nwk_placed find any settle
 full_back = rw (three-claims keys has-three, three-opens keys has-three)
 
 -- of a frame and its copy, the one that comes second is refused
-pub copy-forth : (opened (start 2 2 copies) forth).told 1 ≡ saying (Refused CounterRepeated)
+pub copy-forth : (opened (start 2 2 copies) forth).told 1 ≡ saying (Err CounterRepeated)
 unfolding open_all open_nwk nwk_placed find any settle
 copy-forth = rw (two-claims keys has-two, two-opens keys has-two, two-again keys)
 
-pub copy-back : (opened (start 2 2 copies) back).told 1 ≡ saying (Done 22 0)
+pub copy-back : (opened (start 2 2 copies) back).told 1 ≡ saying (Ok (Done 22 0))
 unfolding open_all open_nwk nwk_placed find any settle
 copy-back = rw (two-claims keys has-two, two-opens keys has-two)

@@ -1,11 +1,12 @@
 -- WHY DEMAND 3 ASKS WHAT IT ASKS. Without any one of the hypotheses of `nwk-in-any-order` (the active number, the free rows, the order) it does
 -- not hold, not even at level 5 and with at most two keys: each theorem here takes one away, and frames that are there to see (OnAir.antt,
 -- Desks.antt) refute what is left. Level and number of keys are not needed: in another state every frame is answered 7. Assumes nothing.
+use Rattle.std.specs.Prelude.{Err, Ok}
 use Rattle.std.specs.Prelude.{◌≡◌, refl, ℕ, ◌+◌, ◌≤◌, length}
 use Rattle.std.proofs.Common.{sym, ap, ◌∙◌, arith}
 use mathlib.Core.List.Memᴰ.{head as here}
 use mathlib.Core.List.{List, Memᴰ as Mem}
-use Rattle.answer.specs.declared.Answer.TheVariants.{Done, Refused}
+use Rattle.answer.specs.declared.Accepted.TheVariants.{Done}
 use Rattle.answer.specs.declared.Refusal.TheVariants.{CounterRepeated, TableFull}
 use Rattle.cells.specs.Lists.{any, Distinct}
 use Rattle.cells.specs.Rows.{new_keys}
@@ -39,7 +40,7 @@ pub needs-free-rows : ¬ ((d : NwkDesk) (p q : List ℕ)
     → Alike (opened d p) (opened d q))
 needs-free-rows claim =
     let z = claim (start 2 1 both) forth back refl (omega arith) (here refl) (reordered 2 1) in
-    let w : saying (Refused TableFull) ≡ saying (Done 22 0) = sym full-forth ∙ z.answers 1 ∙ full_back in
+    let w : saying (Err TableFull) ≡ saying (Ok (Done 22 0)) = sym full-forth ∙ z.answers 1 ∙ full_back in
     let v : ◌≡◌ {A = ℕ} 42 0 = ap said_number w in
     omega arith
 
@@ -54,6 +55,6 @@ pub needs-order : ¬ ((d : NwkDesk) (p q : List ℕ)
 unfolding new_keys any
 needs-order claim =
     let z = claim (start 2 2 copies) forth back refl (omega arith) (here refl) (rw (two-claims keys has-two) (omega arith)) forth-once back-once none-lost none-added in
-    let w : saying (Refused CounterRepeated) ≡ saying (Done 22 0) = sym copy-forth ∙ z.answers 1 ∙ copy-back in
+    let w : saying (Err CounterRepeated) ≡ saying (Ok (Done 22 0)) = sym copy-forth ∙ z.answers 1 ∙ copy-back in
     let v : ◌≡◌ {A = ℕ} 33 0 = ap said_number w in
     omega arith

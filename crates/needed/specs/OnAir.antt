@@ -1,8 +1,9 @@
 -- NWK frames as they go on the air, without payload: what they claim, and that their tags are right, computed by AES and CCM as they
 -- are defined. Assumes nothing.
+use Rattle.std.specs.Prelude.{Ok}
 use Rattle.std.specs.Prelude.{◌≡◌, true, List, [], ◌∷◌, ℕ}
 use Rattle.auxiliary_header.specs.declared.auxiliary.KeyUsed.TheVariants as used
-use Rattle.answer.specs.declared.Answer.TheVariants.{Done}
+use Rattle.answer.specs.declared.Accepted.TheVariants.{Done}
 use Rattle.answer.specs.declared.Refusal.TheVariants.{TableFull}
 use Rattle.cells.specs.Rows.{Reaction, become}
 use Rattle.nib.specs.declared.keys.NetworkKeys.{NetworkKeys}
@@ -45,7 +46,7 @@ claim_under n = record { key = used.Network n; sender = sender; counter = 5; con
 
 -- the frame opens, unless there is no row for it
 abbrev pub opens_fresh : List ℕ → Reaction Heard Cell
-opens_fresh b = become (counting 5) (record { answer = Done 22 0; frame = opened_octets key sender 5 8 22 b }) (refused TableFull b)
+opens_fresh b = become (counting 5) (record { answer = Ok (Done 22 0); frame = opened_octets key sender 5 8 22 b }) (refused TableFull b)
 
 -- the keys have the row that the frame names
 abbrev pub Has : NetworkKeys → ℕ → Type 0

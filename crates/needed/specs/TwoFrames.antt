@@ -9,7 +9,7 @@ use mathlib.Core.List.Memᴰ.{tail as there}
 use mathlib.Core.List.Sublistᴰ
 use mathlib.Core.List.{List, [], ◌∷◌, Memᴰ as Mem, Sublistᴰ as Sublist}
 use Rattle.std.specs.Prelude.{Option, None, Some}
-use Rattle.answer.specs.declared.Answer.{Answer}
+use Rattle.answer.specs.Numbers.{Answer}
 use Rattle.answer.specs.Numbers.{told}
 use Rattle.cells.specs.Lists.{Distinct, Before}
 use Rattle.cells.specs.ListLaws.{part-mem, second}

@@ -1,9 +1,10 @@
 -- Desks with the two frames of OnAir.antt, opened forth and back, and what they end with: computed. Assumes nothing.
+use Rattle.std.specs.Prelude.{Err, Ok}
 use Rattle.std.specs.Prelude.{◌≡◌, ℕ}
 use Rattle.std.proofs.Common.{sym, ◌∙◌, arith}
 use Rattle.std.specs.Prelude.{Some}
 use Rattle.std.proofs.lemmas.Option.{same_Some}
-use Rattle.answer.specs.declared.Answer.TheVariants.{Done, Refused}
+use Rattle.answer.specs.declared.Accepted.TheVariants.{Done}
 use Rattle.answer.specs.declared.Refusal.TheVariants.{CounterRepeated, TableFull}
 use Rattle.cells.specs.Lists.{any}
 use Rattle.cells.specs.Rows.{find, settle}
@@ -30,19 +31,19 @@ reordered used = turned (names (start used both)) apart
 -- ---- what the desks end with
 
 -- with one free row for the two: the frame in buffer 1 is refused if it comes second, and opens if it comes first
-pub full-forth : (opened (start 15 both) forth).told 1 ≡ saying (Refused TableFull)
+pub full-forth : (opened (start 15 both) forth).told 1 ≡ saying (Err TableFull)
 unfolding open_all open_aps aps_placed find any settle
 full-forth = rw (one-claims, one-opens, other-claims, other-opens)
 
-pub full_back : (opened (start 15 both) back).told 1 ≡ saying (Done 15 0)
+pub full_back : (opened (start 15 both) back).told 1 ≡ saying (Ok (Done 15 0))
 unfolding open_all open_aps aps_placed find any settle
 full_back = rw (other-claims, other-opens)
 
 -- of a frame and its copy, the one that comes second is refused
-pub copy-forth : (opened (start 0 copies) forth).told 1 ≡ saying (Refused CounterRepeated)
+pub copy-forth : (opened (start 0 copies) forth).told 1 ≡ saying (Err CounterRepeated)
 unfolding open_all open_aps aps_placed find any settle
 copy-forth = rw (one-claims, one-opens, one_again)
 
-pub copy-back : (opened (start 0 copies) back).told 1 ≡ saying (Done 15 0)
+pub copy-back : (opened (start 0 copies) back).told 1 ≡ saying (Ok (Done 15 0))
 unfolding open_all open_aps aps_placed find any settle
 copy-back = rw (one-claims, one-opens)

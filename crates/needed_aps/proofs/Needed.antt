@@ -1,9 +1,10 @@
 -- THE SAME FOR APS. Without any one of the hypotheses of `aps-in-any-order` (the free rows, the order) it does not hold, not even at level 5.
 -- Assumes nothing.
+use Rattle.std.specs.Prelude.{Err, Ok}
 use Rattle.std.specs.Prelude.{◌≡◌, refl, ℕ, ◌+◌, ◌≤◌, length}
 use Rattle.std.proofs.Common.{sym, ap, ◌∙◌, arith}
 use mathlib.Core.List.{List, Memᴰ as Mem}
-use Rattle.answer.specs.declared.Answer.TheVariants.{Done, Refused}
+use Rattle.answer.specs.declared.Accepted.TheVariants.{Done}
 use Rattle.answer.specs.declared.Refusal.TheVariants.{CounterRepeated, TableFull}
 use Rattle.cells.specs.Lists.{any, Distinct}
 use Rattle.cells.specs.Rows.{new_keys}
@@ -21,7 +22,7 @@ pub aps-needs-free-rows : ¬ ((d : ApsDesk) (p q : List ℕ)
     → Alike (opened d p) (opened d q))
 aps-needs-free-rows claim =
     let z = claim (start 15 both) forth back refl (reordered 15) in
-    let w : saying (Refused TableFull) ≡ saying (Done 15 0) = sym full-forth ∙ z.answers 1 ∙ full_back in
+    let w : saying (Err TableFull) ≡ saying (Ok (Done 15 0)) = sym full-forth ∙ z.answers 1 ∙ full_back in
     let v : ◌≡◌ {A = ℕ} 42 0 = ap said_number w in
     omega arith
 
@@ -34,6 +35,6 @@ pub aps-needs-order : ¬ ((d : ApsDesk) (p q : List ℕ)
 unfolding new_keys any
 aps-needs-order claim =
     let z = claim (start 0 copies) forth back refl (rw one-claims (omega arith)) forth-once back-once none-lost none-added in
-    let w : saying (Refused CounterRepeated) ≡ saying (Done 15 0) = sym copy-forth ∙ z.answers 1 ∙ copy-back in
+    let w : saying (Err CounterRepeated) ≡ saying (Ok (Done 15 0)) = sym copy-forth ∙ z.answers 1 ∙ copy-back in
     let v : ◌≡◌ {A = ℕ} 33 0 = ap said_number w in
     omega arith

@@ -2,8 +2,9 @@
 -- both start at outgoing 0 (document 01, 'Opening APS'). So the first frame that is secured to the one and the first to the other go out under one
 -- key and one nonce: here the same plain frame gives the same octets. What holds is said of each pair row (crate `order`, proofs/Nonces.antt).
 -- Assumes nothing.
+use Rattle.std.specs.Prelude.{Ok}
 use Rattle.std.specs.Prelude.{◌≡◌, refl, true, List, [], ◌∷◌, ℕ, replicate}
-use Rattle.answer.specs.declared.Answer.TheVariants.{Done}
+use Rattle.answer.specs.declared.Accepted.TheVariants.{Done}
 use Rattle.laws.specs.Numbers.{bit}
 use Rattle.cells.specs.First.{first, at_first}
 use Rattle.frame_header.specs.Aps.{aps_taken, aps_length}
@@ -28,7 +29,7 @@ abbrev later : Gateway
 later = after_step gateway (securing 1 true plain out)
 
 -- both are done, under the same nonce, and the same octets go out
-pub same-nonce-twice : ((secured gateway 1 true plain out).answer ≡ Done 0 20) × ((secured later 2 true plain out).answer ≡ Done 0 20)
+pub same-nonce-twice : ((secured gateway 1 true plain out).answer ≡ Ok (Done 0 20)) × ((secured later 2 true plain out).answer ≡ Ok (Done 0 20))
     × (nonce_used 1 gateway (securing 1 true plain out) ≡ nonce_used 2 later (securing 2 true plain out))
     × ((secured gateway 1 true plain out).out ≡ (secured later 2 true plain out).out)
 unfolding secure_aps first at_first aps_taken aps_length bit aps_on_air

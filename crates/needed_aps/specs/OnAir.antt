@@ -1,8 +1,9 @@
 -- Two APS frames as they go on the air, commands without payload under the trust centre link key: what they claim, and that their tags are right,
 -- computed by AES and CCM as they are defined. Assumes nothing.
+use Rattle.std.specs.Prelude.{Ok}
 use Rattle.std.specs.Prelude.{List, [], ◌∷◌, ℕ}
 use Rattle.auxiliary_header.specs.declared.auxiliary.KeyUsed.TheVariants as used
-use Rattle.answer.specs.declared.Answer.TheVariants.{Done}
+use Rattle.answer.specs.declared.Accepted.TheVariants.{Done}
 use Rattle.answer.specs.declared.Refusal.TheVariants.{TableFull}
 use Rattle.cells.specs.Rows.{Reaction, become}
 use Rattle.aib.specs.Pairs.{PairCell, new_pair, trust_center_link_key}
@@ -36,4 +37,4 @@ claim_from sender = record { key = used.Link; sender = sender; counter = 5; cont
 
 -- the frame opens, unless there is no row for it
 abbrev pub opens_new : ℕ → List ℕ → Reaction Heard PairCell
-opens_new sender b = become (new_pair 5) (record { answer = Done 15 0; frame = opened_octets trust_center_link_key sender 5 2 15 b }) (refused TableFull b)
+opens_new sender b = become (new_pair 5) (record { answer = Ok (Done 15 0); frame = opened_octets trust_center_link_key sender 5 2 15 b }) (refused TableFull b)

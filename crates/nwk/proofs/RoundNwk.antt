@@ -1,9 +1,9 @@
 -- The round trip of NWK: what `secure_nwk` makes, a gateway with the same key under the same number opens to the same payload.
 -- Assumes nothing.
+use Rattle.std.specs.Prelude.{None, Ok, Option, Some}
 use mathlib.Core.Path.{◌≡◌, refl, sym, ap, ◌∙◌}
 use mathlib.Core.Bool.{true, false}
 use mathlib.Core.List.{List, ◌++◌, append_assoc}
-use mathlib.Core.Option.{Option, none, some}
 use Prim.Native.Nat.{ℕ, ◌+◌, ◌-◌, ◌^◌, ◌≤◌, ◌<◌}
 use native.Mathlib.Omega.{arith}
 use lib.Dec.{eqb, ltb}
@@ -11,7 +11,7 @@ use lib.ListN.{length, take, drop, length-append, length-drop}
 use lib.Seq.{length-take-le, take_at}
 use borrow.Author.Tests.{le-ltb, ne_eqb, not-true}
 use Rattle.laws.specs.Numbers.{bit}
-use Rattle.answer.specs.declared.Answer.TheVariants.{Done}
+use Rattle.answer.specs.declared.Accepted.TheVariants.{Done}
 use Rattle.answer.specs.declared.Refusal.TheVariants.{TableFull}
 use Rattle.cells.specs.Rows.{become, find, put, room, settle}
 use Rattle.control.specs.Control.{sent, has_sender, has_number, identifier_of}
@@ -45,10 +45,10 @@ use Rattle.securing.proofs.SecuringLaws.{auxiliary-size}
 pub record Hears (s : Nwk) (o : Outgoing) (g : Nwk) (rows : List CounterRow) (in_use : ℕ) : Type 0 where
   pub fit : nwk_unfit g rows in_use ≡ false
   pub same_key : key_found g.keys s.active ≡ key_found s.keys s.active
-  pub lower : (held : ℕ) → counter_in (find counter_rows (take in_use rows) (pair s.active s.own)) ≡ some held → held < o.next
+  pub lower : (held : ℕ) → counter_in (find counter_rows (take in_use rows) (pair s.active s.own)) ≡ Some held → held < o.next
   pub has_room : room counter_rows (capacity (length rows)) (take in_use rows) (pair s.active s.own) ≡ true
 
-module _ (s : Nwk) (o : Outgoing) (plain out : List ℕ) (start len : ℕ) (done : (secure_nwk s o plain out).answer ≡ Done start len)
+module _ (s : Nwk) (o : Outgoing) (plain out : List ℕ) (start len : ℕ) (done : (secure_nwk s o plain out).answer ≡ Ok (Done start len))
     (address : s.own < 2 ^ 64) (counter : o.next < 2 ^ 32) where
   abbrev checked : Checked s o plain out
   checked = is-checked s o plain out start len done
@@ -136,8 +136,8 @@ module _ (s : Nwk) (o : Outgoing) (plain out : List ℕ) (start len : ℕ) (done
     opened = protection.laid key s.own o.next header headers payload inside
 
     not-held : (h : Option ℕ) → counter_in held ≡ h → (equals h o.next ≡ false) × (below h o.next ≡ false)
-    not-held none e = (refl, refl)
-    not-held (some m) e =
+    not-held None e = (refl, refl)
+    not-held (Some m) e =
         let l : m < o.next = hears.lower m e in
         (ne_eqb o.next m (λ q. omega arith), le-ltb o.next m (omega arith))
 
@@ -145,7 +145,7 @@ module _ (s : Nwk) (o : Outgoing) (plain out : List ℕ) (start len : ℕ) (done
     size = rw frame-length (omega arith)
 
     frame-judged : nwk_judged g.keys claim held frame
-        ≡ become (counting o.next) (record { answer = Done (header + 14) (length plain - header); frame = opened }) (refused TableFull frame)
+        ≡ become (counting o.next) (record { answer = Ok (Done (header + 14) (length plain - header)); frame = opened }) (refused TableFull frame)
     unfolding nwk_judged nwk_on_air opened
     frame-judged =
         let n = not-held (counter_in held) refl in
@@ -160,7 +160,7 @@ module _ (s : Nwk) (o : Outgoing) (plain out : List ℕ) (start len : ℕ) (done
     -- all that the opening leaves: the pair's row holds the counter
     pub heard-frame : open_nwk g rows in_use frame
         ≡ nwk_committed g rows (pair s.active s.own)
-        (record { out = record { answer = Done (header + 14) (length plain - header); frame = opened }; rows = put counter_rows (take in_use rows) (pair s.active s.own) (counting o.next) })
+        (record { out = record { answer = Ok (Done (header + 14) (length plain - header)); frame = opened }; rows = put counter_rows (take in_use rows) (pair s.active s.own) (counting o.next) })
     unfolding open_nwk nwk_placed settle
     heard-frame = rw (hears.fit, frame-claims, frame-judged, hears.has_room)
 
@@ -168,7 +168,7 @@ module _ (s : Nwk) (o : Outgoing) (plain out : List ℕ) (start len : ℕ) (done
     abbrev result : Opened
     result = open_nwk g rows in_use (take len (secure_nwk s o plain out).out)
 
-    pub round_trip : (result.answer ≡ Done (header + 14) (length payload)) × (take (length payload) (drop (header + 14) result.frame) ≡ payload)
+    pub round_trip : (result.answer ≡ Ok (Done (header + 14) (length payload))) × (take (length payload) (drop (header + 14) result.frame) ≡ payload)
     unfolding opened
     round_trip =
         let e : result ≡ open_nwk g rows in_use frame = rw sent-frame in

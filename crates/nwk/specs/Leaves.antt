@@ -1,6 +1,6 @@
 -- What a call leaves, by what it returns and what is in the memory lent.
 use Rattle.std.specs.Prelude.{List, ℕ}
-use Rattle.answer.specs.declared.Answer.{Answer}
+use Rattle.answer.specs.Numbers.{Answer}
 use Rattle.nib.specs.declared.counters.CounterRow.{CounterRow}
 use Rattle.nib.specs.declared.outgoing.Outgoing.{Outgoing}
 use Rattle.nwk.specs.declared.open.OpenedNwk.{OpenedNwk}

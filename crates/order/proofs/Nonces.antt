@@ -2,11 +2,12 @@
 -- the outgoing counter is not reset: no counter is used twice, so no two frames are secured under one nonce. For NWK that is said of all keys
 -- together, for APS of each pair row. Two rows may hold one key, and then a nonce may come twice under it: see the crate `needed_aps`,
 -- proofs/Reuse.antt. Assumes nothing.
+use Rattle.std.specs.Prelude.{Ok}
 use Rattle.std.specs.Prelude.{◌≡◌, refl, Bool, List, ◌++◌, ℕ, ◌≤◌, ◌<◌, ◌^◌, length, take, get_or}
 use Rattle.std.proofs.Common.{sym, ap, ◌∙◌, arith, length-take-le}
 use Rattle.std.specs.Prelude.{Option}
 use Rattle.std.proofs.lemmas.List.{get_or_at}
-use Rattle.answer.specs.declared.Answer.TheVariants.{Done}
+use Rattle.answer.specs.declared.Accepted.TheVariants.{Done}
 use Rattle.cells.specs.Lists.{Distinct}
 use Rattle.cells.specs.Once.{used_by}
 use Rattle.control.specs.Control.{filled, sent}
@@ -60,10 +61,10 @@ control-at identifier counter own number plain header whole = get_or_at (take he
 
 module _ (s : Nwk) (o : Outgoing) (plain out : List ℕ) where
   -- so it is wherever a securing was done
-  pub nwk-sealed-under : (start len : ℕ) → (secure_nwk s o plain out).answer ≡ Done start len → NwkSealed s o plain out (secure_nwk s o plain out).out
+  pub nwk-sealed-under : (start len : ℕ) → (secure_nwk s o plain out).answer ≡ Ok (Done start len) → NwkSealed s o plain out (secure_nwk s o plain out).out
   nwk-sealed-under start len = at (nwk-sent.securing s o plain out)
     where
-      at : {x : nwk-secured.Secured} → nwk-sent.Sent s o plain out x → x.answer ≡ Done start len → NwkSealed s o plain out x.out
+      at : {x : nwk-secured.Secured} → nwk-sent.Sent s o plain out x → x.answer ≡ Ok (Done start len) → NwkSealed s o plain out x.out
       at (nwk-sent.not-sent why) e = let z : ◌≡◌ {A = ℕ} 0 1 = cc in absurd (omega arith)
       at (nwk-sent.sent whole usable) e =
           (refl, ap (λ (control : ℕ). nonce_of s.own o.next (filled control 5)) (control-at Network o.next s.own s.active plain (nwk_length plain) whole))
@@ -73,10 +74,10 @@ module _ (g : Gateway) (device : ℕ) (extended : Bool) (plain out : List ℕ) w
   header = aps_length (get_or plain 0 0)
 
   -- so it is wherever a securing was done
-  pub aps-sealed-under : (start len : ℕ) → (aps.secured g device extended plain out).answer ≡ Done start len → ApsSealed g device extended plain out (aps.secured g device extended plain out).out
+  pub aps-sealed-under : (start len : ℕ) → (aps.secured g device extended plain out).answer ≡ Ok (Done start len) → ApsSealed g device extended plain out (aps.secured g device extended plain out).out
   aps-sealed-under start len = at (aps-sent.securing g.aps g.pairs device extended plain out)
     where
-      at : {x : aps-secured.Secured} → aps-sent.Sent g.aps g.pairs device extended plain out x → x.answer ≡ Done start len → ApsSealed g device extended plain out x.out
+      at : {x : aps-secured.Secured} → aps-sent.Sent g.aps g.pairs device extended plain out x → x.answer ≡ Ok (Done start len) → ApsSealed g device extended plain out x.out
       at (aps-sent.not-sent why) e = let z : ◌≡◌ {A = ℕ} 0 1 = cc in absurd (omega arith)
       at (aps-sent.sent row identifier found chosen whole usable) e = (
         row,

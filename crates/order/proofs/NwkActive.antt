@@ -1,6 +1,7 @@
 -- The active number at the end of a list. A frame opens only under the number of one of the keys. So with at most two keys, the active
 -- number a one of theirs, it ends as the next number if a frame opened under that, and else as it was: once it has moved, a, the next
 -- and the one after that would be three numbers. Which frames open does not depend on the order. Assumes nothing.
+use Rattle.std.specs.Prelude.{Err, Ok}
 use Rattle.std.specs.Prelude.{◌≡◌, ◌⊎◌, Bool, not, ◌||◌, length, take, eqb, ltb}
 use Rattle.std.proofs.Math.Path.{refl}
 use Rattle.std.proofs.Common.{sym, ap, ◌∙◌, inl, inr, arith, length-take, eqb-true}
@@ -13,8 +14,8 @@ use Rattle.std.specs.Prelude.{Option, None, Some}
 use Rattle.std.proofs.lemmas.Option.{none-some, same_Some}
 use Prim.Native.Nat.{ℕ, ◌≤◌}
 use Rattle.std.proofs.lemmas.List.{length-map}
-use Rattle.answer.specs.declared.Answer.{Answer}
-use Rattle.answer.specs.declared.Answer.TheVariants.{Done, Plain, Refused}
+use Rattle.answer.specs.Numbers.{Answer}
+use Rattle.answer.specs.declared.Accepted.TheVariants.{Done, Plain}
 use Rattle.answer.specs.declared.Refusal.TheVariants.{NoNetworkKey}
 use Rattle.cells.specs.Lists.{any}
 use Rattle.cells.specs.ListLaws.{clash, either}
@@ -107,19 +108,19 @@ module _ (keys : NetworkKeys) (b : List ℕ) (k : Pair) where
 
 pub opens-named : (n : ℕ) (o : Option Pair) (a : Answer) → opens_under n o a ≡ true → (k : Pair) × (o ≡ Some k) × (k.number ≡ n)
 opens-named n None a e = clash false e refl
-opens-named n (Some k) (Done start len) e = (k, refl, eqb-true k.number n e)
-opens-named n (Some k) (Plain start len) e = clash false e refl
-opens-named n (Some k) (Refused why) e = clash false e refl
+opens-named n (Some k) (Ok (Done start len)) e = (k, refl, eqb-true k.number n e)
+opens-named n (Some k) (Ok (Plain start len)) e = clash false e refl
+opens-named n (Some k) (Err why) e = clash false e refl
 
 turned-once : (a : ℕ) (k : Pair) (x : Answer) → active_after a k.number x ≡ cond (opens_under (next a) (Some k) x) (next a) a
 unfolding turn
-turned-once a k (Done start len) = at (eqb k.number (next a)) refl
+turned-once a k (Ok (Done start len)) = at (eqb k.number (next a)) refl
   where
     at : (t : Bool) → eqb k.number (next a) ≡ t → cond t k.number a ≡ cond t (next a) a
     at true e = eqb-true k.number (next a) e
     at false e = refl
-turned-once a k (Plain start len) = refl
-turned-once a k (Refused why) = refl
+turned-once a k (Ok (Plain start len)) = refl
+turned-once a k (Err why) = refl
 
 module _ (keys : NetworkKeys) (lent : ℕ) (two : keys.used ≤ 2) where
   -- the active number after a frame: the next, if the frame opened under that

@@ -1,4 +1,5 @@
 -- Opening and securing NWK change nothing unless the answer is done. Assumes nothing.
+use Rattle.std.specs.Prelude.{Err, Ok}
 use Rattle.std.specs.Prelude.{◌≡◌, Bool, cond, not, List, ℕ, ◌+◌, ◌≤◌, eqb, ltb, length, take}
 use Rattle.std.proofs.Math.Path.{refl, ap}
 use Rattle.std.proofs.Common.{◌∙◌, arith}
@@ -6,8 +7,8 @@ use Rattle.std.proofs.Math.Bool.{true, false}
 use Rattle.std.specs.Prelude.{Option}
 use Rattle.std.proofs.Math.Seq.{length-take-le}
 use borrow.Author.Tests.{ltb-false}
-use Rattle.answer.specs.declared.Answer.{Answer}
-use Rattle.answer.specs.declared.Answer.TheVariants.{Done, Plain, Refused}
+use Rattle.answer.specs.Numbers.{Answer}
+use Rattle.answer.specs.declared.Accepted.TheVariants.{Done, Plain}
 use Rattle.answer.specs.declared.Refusal.TheVariants.{Unsupported}
 use Rattle.cells.specs.ListLaws.{either, neither}
 use Rattle.cells.specs.Rows.{Settled, find, settle}
@@ -39,9 +40,9 @@ nwk-tame keys c held b =
     (either (Tame b) (not (vouches _ _ _ _ _ b)) (stops _) (opens _ _ _ _ _))))
 
 active-kept : (active n : ℕ) (a : Answer) → NotDone a → active_after active n a ≡ active
-active-kept active n (Done start len) h = absurd (h start len refl)
-active-kept active n (Plain start len) h = refl
-active-kept active n (Refused why) h = refl
+active-kept active n (Ok (Done start len)) h = absurd (h start len refl)
+active-kept active n (Ok (Plain start len)) h = refl
+active-kept active n (Err why) h = refl
 
 module _ (s : Nwk) (rows : List CounterRow) (used : ℕ) (b : List ℕ) where
   abbrev NwkKept : Opened → Type 0

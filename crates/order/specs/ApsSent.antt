@@ -1,11 +1,11 @@
 -- What a securing of APS comes to: a refusal, or a finished frame. Assumes nothing.
+use Rattle.std.specs.Prelude.{Ok}
 use Rattle.std.specs.Prelude.{◌≡◌, refl, Bool, false, ◌||◌, ◌&&◌, List, ℕ, ◌+◌, ◌≤◌, eqb, get_or}
 use Rattle.std.proofs.Math.Bool.{not}
 use Rattle.std.specs.Prelude.{Option, None, Some}
 use Rattle.std.proofs.Math.Dec.{ltb}
 use Rattle.std.proofs.Math.ListN.{length}
 use Rattle.std.proofs.Common.{ltb-false}
-use Rattle.answer.specs.declared.Outcome.TheVariants.{Done}
 use Rattle.answer.specs.declared.Refusal.{Refusal}
 use Rattle.cells.specs.First.{first, at_first}
 use Rattle.cells.specs.ListLaws.{either, nor, which}
@@ -55,7 +55,7 @@ module _ (pairs : Pairs) (device : ℕ) where
   pub data Advances : Advanced → Type 0 where
     not-advanced : (why : Refusal) → Advances (not_advanced why pairs)
     advances : (row : PairRow) → first (may_use device) (in_use pairs) ≡ Some row → eqb row.outgoing spent ≡ false
-        → Advances (record { outcome = Done; counter = row.outgoing; pairs = holding (at_first (may_use device) raised (in_use pairs)) pairs })
+        → Advances (record { outcome = (Ok tt); counter = row.outgoing; pairs = holding (at_first (may_use device) raised (in_use pairs)) pairs })
 
   pub advancing : Advances (advanced pairs device)
   unfolding advanced

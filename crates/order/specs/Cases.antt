@@ -1,11 +1,12 @@
 -- P1 TO P10: document 01's cases that are marked P, as one list, on the definitions that the promises use. That there are frames and states as the
 -- records here ask for is shown in the crates `needed` and `needed_aps`, proofs/Inhabited.antt. Assumes nothing.
+use Rattle.std.specs.Prelude.{Ok}
 use Rattle.std.specs.Prelude.{◌≡◌, refl, Bool, true, false, cond, List, [], ◌∷◌, ℕ, ◌≤◌, ◌<◌, length, take}
 use Rattle.std.proofs.Common.{ap, ◌∙◌, arith, eq-eqb, le-ltb}
 use Rattle.std.specs.Prelude.{Some}
 use Rattle.std.proofs.lemmas.Bool.{lt-leb}
-use Rattle.answer.specs.declared.Answer.{Answer}
-use Rattle.answer.specs.declared.Answer.TheVariants.{Done}
+use Rattle.answer.specs.Numbers.{Answer}
+use Rattle.answer.specs.declared.Accepted.TheVariants.{Done}
 use Rattle.answer.specs.declared.Refusal.TheVariants.{Unsupported}
 use Rattle.answer.specs.Numbers.{outcome_number, told}
 use Rattle.cells.specs.Rows.{find, settle}
@@ -56,7 +57,7 @@ pub record NwkOpens (s : Nwk) (rows : List CounterRow) (used : ℕ) (b : List �
   pub under : number_of claim.key ≡ number
   pub start : ℕ
   pub len : ℕ
-  pub opens : (open_nwk s rows used b).answer ≡ Done start len
+  pub opens : (open_nwk s rows used b).answer ≡ Ok (Done start len)
 
 -- As `NwkHeard`, for an APS frame of a known device.
 pub record ApsHeard (s : Aps) (pairs : Pairs) (b : List ℕ) (held counter : ℕ) : Type 0 where
@@ -108,13 +109,13 @@ turns : (s : Nwk) (rows : List CounterRow) (used : ℕ) (b : List ℕ) (n : ℕ)
 unfolding open_nwk nwk_placed
 turns s rows used b n h = at (nwk_unfit s rows used) h.opens
   where
-    placed : (w : Who) → w ≡ Claims h.claim → (nwk_placed s rows used b w).answer ≡ Done h.start h.len → (nwk_placed s rows used b w).active ≡ turn s.active n
+    placed : (w : Who) → w ≡ Claims h.claim → (nwk_placed s rows used b w).answer ≡ Ok (Done h.start h.len) → (nwk_placed s rows used b w).active ≡ turn s.active n
     placed (Told a) e f = let z : ◌≡◌ {A = ℕ} 0 1 = cc in absurd (omega arith)
     placed (Claims c) e f =
         let same : number_of c.key ≡ n = cc in
         ap (active_after s.active (number_of c.key)) f ∙ ap (turn s.active) same
 
-    at : (t : Bool) → (cond t (unchanged s rows used (refused Unsupported b)) (nwk_placed s rows used b (nwk_who s.keys b))).answer ≡ Done h.start h.len
+    at : (t : Bool) → (cond t (unchanged s rows used (refused Unsupported b)) (nwk_placed s rows used b (nwk_who s.keys b))).answer ≡ Ok (Done h.start h.len)
         → (cond t (unchanged s rows used (refused Unsupported b)) (nwk_placed s rows used b (nwk_who s.keys b))).active ≡ turn s.active n
     at true f = let z : ◌≡◌ {A = ℕ} 0 1 = cc in absurd (omega arith)
     at false f = placed (nwk_who s.keys b) h.claims f

@@ -1,10 +1,10 @@
 -- What an opening leaves in a frame's buffer, and what is told of the frame.
+use Rattle.std.specs.Prelude.{Err, Ok}
 use Rattle.std.specs.Prelude.{List, ℕ}
 use Rattle.std.specs.Prelude.{Option, None, Some}
-use Rattle.answer.specs.declared.Answer.{Answer}
-use Rattle.answer.specs.declared.Answer.TheVariants as answer
-use Rattle.answer.specs.declared.Outcome.{Outcome}
-use Rattle.answer.specs.declared.Outcome.TheVariants as outcome
+use Rattle.answer.specs.Numbers.{Answer}
+use Rattle.answer.specs.declared.Accepted.TheVariants as answer
+use Rattle.answer.specs.Numbers.{Outcome}
 use Rattle.answer.specs.declared.Told.{Told}
 use Rattle.answer.specs.Numbers.{told}
 use Rattle.protection.specs.Heard.{Heard}
@@ -21,10 +21,10 @@ says h = (h.answer, told h.answer)
 
 -- x, where a call was done
 abbrev pub if_done : {A : Type 0} → Answer → A → Option A
-if_done (answer.Done start len) x = Some x
-if_done (answer.Plain start len) x = None
-if_done (answer.Refused why) x = None
+if_done (Ok (answer.Done start len)) x = Some x
+if_done (Ok (answer.Plain start len)) x = None
+if_done (Err why) x = None
 
 abbrev pub if_taken : {A : Type 0} → Outcome → A → Option A
-if_taken outcome.Done x = Some x
-if_taken (outcome.Refused why) x = None
+if_taken (Ok tt) x = Some x
+if_taken (Err why) x = None

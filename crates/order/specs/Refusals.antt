@@ -1,6 +1,6 @@
 -- What is told of a refusal. Assumes nothing.
 use Rattle.std.specs.Prelude.{◌≡◌}
-use Rattle.answer.specs.declared.Answer.{Answer}
+use Rattle.answer.specs.Numbers.{Answer}
 use Rattle.answer.specs.declared.Refusal.{Refusal}
 use Rattle.answer.specs.Numbers.{number, told}
 

@@ -1,20 +1,21 @@
 -- When a frame has opened, and how an old one is refused. Assumes nothing.
+use Rattle.std.specs.Prelude.{Err, Ok}
 use Rattle.std.specs.Prelude.{◌≡◌, Bool, true, false, List, ℕ, ◌≤◌, ◌<◌}
 use Rattle.std.proofs.Common.{ap, arith, ltb-false}
 use Rattle.std.specs.Prelude.{Option, None, Some}
 use Rattle.std.proofs.lemmas.Option.{none-some, same_Some}
 use Rattle.std.proofs.Math.Decide.{dec_le}
-use Rattle.answer.specs.declared.Answer.{Answer}
-use Rattle.answer.specs.declared.Answer.TheVariants.{Done, Plain, Refused}
+use Rattle.answer.specs.Numbers.{Answer}
+use Rattle.answer.specs.declared.Accepted.TheVariants.{Done, Plain}
 use Rattle.answer.specs.declared.Refusal.{Refusal}
 use Rattle.claims.specs.declared.Who.{Who}
 use Rattle.claims.specs.declared.Who.TheVariants.{Told, Claims}
 use Rattle.protection.specs.Heard.{Heard, refused, below}
 
 abbrev pub is_done : Answer → Bool
-is_done (Done start len) = true
-is_done (Plain start len) = false
-is_done (Refused why) = false
+is_done (Ok (Done start len)) = true
+is_done (Ok (Plain start len)) = false
+is_done (Err why) = false
 
 -- the frame opened
 abbrev pub opens : Heard → Bool

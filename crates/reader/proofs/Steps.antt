@@ -1,8 +1,8 @@
 -- What each field leaves, on plain lists and records. Assumes nothing.
+use Rattle.std.specs.Prelude.{Err}
 use Rattle.std.proofs.Common.{◌≡◌, ℕ, ◌+◌, ◌-◌, ◌<◌, ◌≤◌, Bool, true, false, cond, ltb, List, length, get_or, take, drop, set, sym, refl, ap, ◌∙◌, arith, length-drop, take_all, le-ltb, lt-ltb, eq-eqb}
 use borrow.Author.Tests.{lt-leb}
 use Rattle.laws.specs.Numbers.{field}
-use Rattle.answer.specs.declared.Answer.TheVariants.{Refused}
 use Rattle.answer.specs.declared.Refusal.TheVariants.{Unsupported}
 use Rattle.answer.specs.declared.Told.{Told}
 use Rattle.answer.specs.Numbers.{told}
@@ -91,7 +91,7 @@ module _ (r : Reader) (body : List ℕ) where
       either true = refl
       either false = refl
 
-  pub frame_refused : (k : ℕ) (t : Told) → k ≡ counted r.frames → t ≡ told (Refused Unsupported) → 1024 < length body
+  pub frame_refused : (k : ℕ) (t : Told) → k ≡ counted r.frames → t ≡ told (Err Unsupported) → 1024 < length body
       → record {
         event = Tells (record { frame = k; told = t });
         reader = record { nwk = r.nwk; rows = r.rows; used = r.used; at = r.at; fields = r.fields; frames = k };

@@ -1,5 +1,6 @@
 -- Securing in its two halves: what a securing that is done has checked, and that the checks and what follows them make up `secure_nwk`.
 -- Assumes nothing.
+use Rattle.std.specs.Prelude.{Ok}
 use mathlib.Core.Path.{◌≡◌, refl, sym, ap, ◌∙◌}
 use mathlib.Core.Bool.{Bool, true, false, cond, not, ◌||◌}
 use mathlib.Core.List.{List, ◌++◌}
@@ -9,10 +10,9 @@ use lib.Dec.{eqb, leb, ltb}
 use lib.ListN.{length, drop}
 use borrow.Author.Tests.{ltb-false, leb-true, not-false}
 use Rattle.laws.specs.Numbers.{bit}
-use Rattle.answer.specs.declared.Answer.TheVariants.{Done}
+use Rattle.answer.specs.declared.Accepted.TheVariants.{Done}
 use Rattle.answer.specs.declared.Refusal.{Refusal}
 use Rattle.answer.specs.declared.Refusal.TheVariants.{Unsupported, NoNetworkKey, CounterExhausted, NoRoom}
-use Rattle.answer.specs.declared.Outcome.TheVariants as outcome
 use Rattle.frame_header.specs.declared.network.NwkRead.{NwkRead}
 use Rattle.frame_header.specs.declared.network.NwkRead.TheVariants as nwk
 use Rattle.frame_header.specs.Nwk.{nwk_control, nwk_kind, nwk_length, nwk_of}
@@ -43,8 +43,8 @@ nor-the-other true e = let z : ◌≡◌ {A = ℕ} 0 1 = cc in absurd (omega ari
 
 module _ (s : Nwk) (o : Outgoing) (plain out : List ℕ) (start len : ℕ) where
   -- a check that was passed
-  passed : (t : Bool) (why : Refusal) (rest : Secured) → (cond t (not_secured why out o) rest).answer ≡ Done start len
-      → (t ≡ false) × (rest.answer ≡ Done start len) × (cond t (not_secured why out o) rest ≡ rest)
+  passed : (t : Bool) (why : Refusal) (rest : Secured) → (cond t (not_secured why out o) rest).answer ≡ Ok (Done start len)
+      → (t ≡ false) × (rest.answer ≡ Ok (Done start len)) × (cond t (not_secured why out o) rest ≡ rest)
   passed true why rest e = let z : ◌≡◌ {A = ℕ} 0 1 = cc in absurd (omega arith)
   passed false why rest e = (refl, e, refl)
 
@@ -52,7 +52,7 @@ module _ (s : Nwk) (o : Outgoing) (plain out : List ℕ) (start len : ℕ) where
   header_read b = cond b (nwk.Whole (record { len = nwk_length plain; kind = nwk_kind (nwk_control plain); secured = bit 9 (nwk_control plain) })) nwk.Cut
 
   header-checked : (b : Bool) → leb (nwk_length plain) (length plain) ≡ b → length plain ≤ 1006
-      → secure_nwk s o plain out ≡ nwk_framed s o plain out (header_read b) → (nwk_framed s o plain out (header_read b)).answer ≡ Done start len
+      → secure_nwk s o plain out ≡ nwk_framed s o plain out (header_read b) → (nwk_framed s o plain out (header_read b)).answer ≡ Ok (Done start len)
       → Checked s o plain out
   header-checked false t small so e = let z : ◌≡◌ {A = ℕ} 0 1 = cc in absurd (omega arith)
   header-checked true t small so e =
@@ -70,7 +70,7 @@ module _ (s : Nwk) (o : Outgoing) (plain out : List ℕ) (start len : ℕ) where
         leaves = so ∙ kind.2 ∙ key.2 ∙ may.2 ∙ fits.2;
       }
 
-  pub is-checked : (secure_nwk s o plain out).answer ≡ Done start len → Checked s o plain out
+  pub is-checked : (secure_nwk s o plain out).answer ≡ Ok (Done start len) → Checked s o plain out
   unfolding secure_nwk nwk_of
   is-checked e =
       let state = passed (not (eqb s.level level) || (ltb 2 s.keys.used || ltb 1006 (length plain))) Unsupported _ e in
@@ -86,7 +86,7 @@ module _ (s : Nwk) (o : Outgoing) (plain out : List ℕ) where
   asked = ready_for s o.next plain (length out)
 
   abbrev sent : Ready
-  sent = record { go = true; answer = Done 0 (length plain + nwk_added); header = nwk_length plain }
+  sent = record { go = true; answer = Ok (Done 0 (length plain + nwk_added)); header = nwk_length plain }
 
   -- where every check was passed, the header's length is the plain frame's
   unchecked : (a b c d e : Bool) → (cond a (not_ready Unsupported) (cond b (not_ready Unsupported) (cond c (not_ready NoNetworkKey) (cond d (not_ready CounterExhausted) (cond e (not_ready NoRoom) sent))))).go ≡ true
@@ -141,7 +141,7 @@ module _ (s : Nwk) (o : Outgoing) (plain out : List ℕ) where
     pub goes : ready.go ≡ true → (ready.header ≤ length plain) × (length plain ≤ 1006) × (length plain + nwk_added ≤ length out)
     goes t = let c = checked t in (rw (ready-sent t) c.whole, c.small, c.fits)
 
-    takes : ready.go ≡ true → taken o ≡ record { outcome = outcome.Done; counter = o.next; outgoing = record { next = o.next + 1 } }
+    takes : ready.go ≡ true → taken o ≡ record { outcome = (Ok tt); counter = o.next; outgoing = record { next = o.next + 1 } }
     unfolding taken
     takes t = rw (checked t).usable
 
@@ -150,7 +150,7 @@ module _ (s : Nwk) (o : Outgoing) (plain out : List ℕ) where
         → (y : List ℕ) → y ≡ nwk_on_air s t.counter plain ready.header ++ drop (length plain + nwk_added) out
         → record { answer = ready.answer; out = y; outgoing = o' } ≡ secure_nwk s o plain out
     secured-sent t k o' e y f =
-        let w : took k o' ≡ record { outcome = outcome.Done; counter = o.next; outgoing = record { next = o.next + 1 } } = e ∙ takes t in
+        let w : took k o' ≡ record { outcome = (Ok tt); counter = o.next; outgoing = record { next = o.next + 1 } } = e ∙ takes t in
         (λ i. record { answer = (ready-sent t i).answer; out = (f ∙ ap (λ (x : AfterTaking). nwk_on_air s x.counter plain ready.header ++ drop (length plain + nwk_added) out) w) i; outgoing = (w i).outgoing })
         ∙ done t
 

@@ -1,6 +1,7 @@
 -- What securing asks before a counter is taken, as the code has it. That `secure_nwk` is this, and then the frame, is shown in proofs/.
+use Rattle.std.specs.Prelude.{Err, Ok}
 use Rattle.std.specs.Prelude.{true, false, cond, not, ◌||◌, List, ℕ, ◌+◌, eqb, leb, ltb, length}
-use Rattle.answer.specs.declared.Answer.TheVariants.{Done, Refused}
+use Rattle.answer.specs.declared.Accepted.TheVariants.{Done}
 use Rattle.answer.specs.declared.Refusal.{Refusal}
 use Rattle.answer.specs.declared.Refusal.TheVariants.{Unsupported, Cut, NoNetworkKey, CounterExhausted, NoRoom}
 use Rattle.frame_header.specs.declared.network.NwkRead.{NwkRead}
@@ -14,7 +15,7 @@ use Rattle.nib.specs.declared.state.Nwk.{Nwk}
 use Rattle.securing.specs.SecureNwk.{nwk_added}
 
 abbrev pub not_ready : Refusal → Ready
-not_ready why = record { go = false; answer = Refused why; header = 0 }
+not_ready why = record { go = false; answer = Err why; header = 0 }
 
 -- by what is read of the header of a plain frame of so many octets
 abbrev pub ready_framed : Nwk → ℕ → ℕ → ℕ → NwkRead → Ready
@@ -24,7 +25,7 @@ ready_framed s next size room (nwk.Whole h) =
     (cond (not (key_found s.keys s.active).found) (not_ready NoNetworkKey)
     (cond (not (may_use (record { next = next }))) (not_ready CounterExhausted)
     (cond (ltb room (size + nwk_added)) (not_ready NoRoom)
-    (record { go = true; answer = Done 0 (size + nwk_added); header = h.len }))))
+    (record { go = true; answer = Ok (Done 0 (size + nwk_added)); header = h.len }))))
 
 unfoldable pub ready_for : Nwk → ℕ → List ℕ → ℕ → Ready
 ready_for s next plain room =

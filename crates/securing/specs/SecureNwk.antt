@@ -1,7 +1,8 @@
 -- Securing NWK (document 01, 'Order of checks'), from a plain frame to an output buffer.
+use Rattle.std.specs.Prelude.{Err, Ok}
 use Rattle.std.specs.Prelude.{cond, not, ◌||◌, List, ◌++◌, ℕ, ◌+◌, eqb, leb, ltb, length, take, drop}
-use Rattle.answer.specs.declared.Answer.{Answer}
-use Rattle.answer.specs.declared.Answer.TheVariants.{Done, Refused}
+use Rattle.answer.specs.Numbers.{Answer}
+use Rattle.answer.specs.declared.Accepted.TheVariants.{Done}
 use Rattle.answer.specs.declared.Refusal.{Refusal}
 use Rattle.answer.specs.declared.Refusal.TheVariants.{Unsupported, Cut, NoNetworkKey, CounterExhausted, NoRoom}
 use Rattle.control.specs.Control.{sent}
@@ -24,7 +25,7 @@ pub record Secured : Type 0 where
 
 -- a refusal changes nothing
 abbrev pub not_secured : Refusal → List ℕ → Outgoing → Secured
-not_secured why out o = record { answer = Refused why; out = out; outgoing = o }
+not_secured why out o = record { answer = Err why; out = out; outgoing = o }
 
 -- NWK sends identifier 1 with sender and key number: 14 bytes, and a tag of 4
 abbrev pub nwk_added : ℕ
@@ -42,7 +43,7 @@ nwk_on_air s counter plain header =
 -- done: output bytes past the finished frame stay unchanged, and the outgoing counter rises by 1
 abbrev pub nwk_done : Nwk → Outgoing → List ℕ → List ℕ → ℕ → Secured
 nwk_done s o plain out header = record {
-  answer = Done 0 (length plain + nwk_added);
+  answer = Ok (Done 0 (length plain + nwk_added));
   out = nwk_on_air s o.next plain header ++ drop (length plain + nwk_added) out;
   outgoing = record { next = o.next + 1 };
 }
