@@ -7,6 +7,6 @@ mod securing;
 mod sending;
 mod state;
 
-pub use opening::{OpenedAps, open_aps};
-pub use securing::{SecuredAps, secure_aps};
+pub use opening::open_aps;
+pub use securing::secure_aps;
 pub use state::Aps;

@@ -7,16 +7,11 @@ ghost use Rattle.aps.specs.SecureAps.{aps_on_air, secure_aps};
 use crate::keys::key_for;
 use crate::sending::{ADDED, Chosen, judged};
 use crate::state::Aps;
-use aib::{PairRow, Pairs};
-use answer::Answer;
+use aib::Pairs;
+use answer::{Accepted, Answer};
 use control::{Control, KeyIdentifier};
 use frame_header::ApsControl;
-
-#[derive(Clone, Copy)]
-pub struct SecuredAps {
-    pub answer: Answer,
-    pub pairs: Pairs,
-}
+use protection::Envelope;
 
 // Control, counter and sender.
 const AUXILIARY: usize = 13;
@@ -36,63 +31,46 @@ fn lay(
 {
     let at = header + AUXILIARY;
     octets::copy(&plain[..header], out);
-    auxiliary_header::write(out, header, Control::sent(identifier), counter, own, 0);
+    auxiliary_header::write(out, header, Control::sent(identifier), counter, own, 0).unwrap();
     octets::copy(&plain[header..], &mut out[at..]);
 }
 
 // The finished frame: headers, payload enciphered, tag.
-fn put(
-    aps: Aps,
-    row: PairRow,
-    identifier: KeyIdentifier,
-    plain: &[u8],
-    header: usize,
-    out: &mut [u8],
-)
-    requires { (has_number (sent identifier) ≡ false) × (header ≤ length plain.now) × (length plain.now ≤ 1006) × (length plain.now + 17 ≤ length out.old) }
-    ensures { out.new ≡ aps_on_air aps row identifier plain.now header ++ drop (length plain.now + 17) out.old }
+fn put(aps: Aps, chosen: Chosen, plain: &[u8], header: usize, out: &mut [u8])
+    requires { (has_number (sent chosen.identifier) ≡ false) × (header ≤ length plain.now) × (length plain.now ≤ 1006) × (length plain.now + 17 ≤ length out.old) }
+    ensures { out.new ≡ aps_on_air aps chosen.row chosen.identifier plain.now header ++ drop (length plain.now + 17) out.old }
 {
-    let own = aps.own;
-    let counter = row.outgoing;
-    let link = row.key;
-    let chosen = key_for(identifier, link);
-    let key = chosen.key;
-    let at = header + AUXILIARY;
-    lay(own, counter, identifier, plain, header, out);
-    protection::protect(key, own, counter, out, header, at, plain.len() - header);
+    let Chosen { row, identifier } = chosen;
+    lay(aps.own, row.outgoing, identifier, plain, header, out);
+    let envelope = Envelope {
+        key: key_for(identifier, row.key).unwrap(),
+        sender: aps.own,
+        counter: row.outgoing,
+        at: header,
+        payload: header + AUXILIARY,
+    };
+    envelope.protect(out, plain.len() - header);
 }
 
 // Writes the finished frame to `out` and raises the counter of the row used, or leaves both as they were.
 pub fn secure_aps(
     aps: Aps,
-    pairs: Pairs,
+    pairs: &mut Pairs,
     device: u64,
     extended: bool,
     plain: &[u8],
     out: &mut [u8],
-) -> SecuredAps
-    ensures { (result.answer ≡ (secure_aps aps pairs device extended plain.now out.old).answer)
-        × (result.pairs ≡ (secure_aps aps pairs device extended plain.now out.old).pairs)
-        × (out.new ≡ (secure_aps aps pairs device extended plain.now out.old).out) }
+) -> Answer
+    ensures value { result ≡ (secure_aps aps pairs.old device extended plain.now out.old).answer }
+    ensures pairs_after { pairs.new ≡ (secure_aps aps pairs.old device extended plain.now out.old).pairs }
+    ensures out_after { out.new ≡ (secure_aps aps pairs.old device extended plain.now out.old).out }
 {
     let found = aib::usable(pairs, device);
-    match judged(aps, pairs.used, found, extended, plain, out.len()) {
-        Chosen::Refused(refusal) => SecuredAps {
-            answer: Answer::Refused(refusal),
-            pairs,
-        },
-        Chosen::Key(identifier) => {
-            let row = found.row;
-            let header = ApsControl { byte: plain[0] }.length();
-            put(aps, row, identifier, plain, header, out);
-            let pairs = aib::advance(pairs, device).pairs;
-            SecuredAps {
-                answer: Answer::Done {
-                    start: 0,
-                    len: plain.len() + ADDED,
-                },
-                pairs,
-            }
-        }
-    }
+    let chosen = judged(aps, pairs.used, found, extended, plain, out.len())?;
+    put(aps, chosen, plain, ApsControl { byte: plain[0] }.length(), out);
+    aib::advance(pairs, device)?;
+    Ok(Accepted::Done {
+        start: 0,
+        len: plain.len() + ADDED,
+    })
 }

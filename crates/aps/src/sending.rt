@@ -1,20 +1,20 @@
 // Whether a plain frame may be secured, and by which key (document 01, securing APS, up to the room): this only reads.
-ghost use Rattle.std.specs.Prelude.{◌≡◌, not, ◌&&◌, ◌≤◌, ◌<◌, length, get_or};
+ghost use Rattle.std.specs.Prelude.{◌≡◌, ◌≤◌, get_or};
 ghost use Rattle.frame_header.specs.Aps.{aps_length};
 ghost use Rattle.aps.specs.SecureAps.{identifier_for};
-ghost use Rattle.aps.specs.Sending.{choice, carried_by, shortest, kind_taken, plain_taken, row_in, sendable, sent_by, judgement};
+ghost use Rattle.aps.specs.Sending.{choice, carried_by, shortest, kind_taken, plain_taken, sendable, judgement};
 
 use crate::state::{Aps, unfit};
-use aib::PairFound;
-use answer::{Outcome, Refusal};
+use aib::PairRow;
+use answer::Refusal;
 use control::KeyIdentifier;
 use frame_header::ApsControl;
 
-// The key by which a frame is secured, or why it is not.
+// The row by which a frame is secured, and the key.
 #[derive(Clone, Copy)]
-pub(crate) enum Chosen {
-    Key(KeyIdentifier),
-    Refused(Refusal),
+pub(crate) struct Chosen {
+    pub row: PairRow,
+    pub identifier: KeyIdentifier,
 }
 
 const TRANSPORT_KEY: u8 = 0x05;
@@ -26,33 +26,30 @@ pub(crate) const ADDED: usize = 17;
 fn octet_at(plain: &[u8], at: usize) -> u8
     ensures { result ≡ get_or plain.now at 0 }
 {
-    if at < plain.len() { plain[at] } else { 0 }
+    plain.get(at).copied().unwrap_or(0)
 }
 
 // A command goes by the link key; a key that is carried, by the key for its type.
-fn carried_by(command: u8, kind: u8) -> Chosen
+fn carried_by(command: u8, kind: u8) -> Result<KeyIdentifier, Refusal>
     ensures { result ≡ choice (carried_by command kind) }
 {
-    match command {
-        TRANSPORT_KEY => match kind {
-            1 => Chosen::Key(KeyIdentifier::Transport),
-            3 | 4 => Chosen::Key(KeyIdentifier::Load),
-            _ => Chosen::Refused(Refusal::Unsupported),
-        },
-        _ => Chosen::Key(KeyIdentifier::Link),
+    match (command, kind) {
+        (TRANSPORT_KEY, 1) => Ok(KeyIdentifier::Transport),
+        (TRANSPORT_KEY, 3 | 4) => Ok(KeyIdentifier::Load),
+        (TRANSPORT_KEY, _) => Err(Refusal::Unsupported),
+        _ => Ok(KeyIdentifier::Link),
     }
 }
 
-fn identifier_for(plain: &[u8], control: ApsControl) -> Chosen
+fn identifier_for(plain: &[u8], control: ApsControl) -> Result<KeyIdentifier, Refusal>
     requires { control.byte ≡ get_or plain.now 0 0 }
     ensures { result ≡ choice (identifier_for plain.now (aps_length control.byte)) }
 {
-    let header = control.length();
-    if control.command() {
-        carried_by(octet_at(plain, header), octet_at(plain, header + 1))
-    } else {
-        Chosen::Key(KeyIdentifier::Link)
+    if !control.command() {
+        return Ok(KeyIdentifier::Link);
     }
+    let header = control.length();
+    carried_by(octet_at(plain, header), octet_at(plain, header + 1))
 }
 
 // The header, and of a command its first payload byte.
@@ -67,94 +64,71 @@ fn shortest(control: ApsControl) -> usize
 }
 
 #[tactic(auto, unfolding(crate::specs::Sending::kind_taken))]
-fn kind_taken(control: ApsControl, size: usize) -> Outcome
+fn kind_taken(control: ApsControl, size: usize) -> Result<(), Refusal>
     ensures { result ≡ kind_taken control.byte size }
 {
-    if !control.taken() {
-        return Outcome::Refused(Refusal::Unsupported);
-    }
-    if !control.secured() {
-        return Outcome::Refused(Refusal::Unsupported);
+    if !control.taken() || !control.secured() {
+        return Err(Refusal::Unsupported);
     }
     if size < shortest(control) {
-        return Outcome::Refused(Refusal::Cut);
+        return Err(Refusal::Cut);
     }
-    Outcome::Done
+    Ok(())
 }
 
 #[tactic(auto, unfolding(crate::specs::Sending::plain_taken))]
-fn plain_taken(aps: Aps, used: usize, plain: &[u8]) -> Outcome
+fn plain_taken(aps: Aps, used: usize, plain: &[u8]) -> Result<(), Refusal>
     ensures { result ≡ plain_taken aps used plain.now }
 {
-    if unfit(aps, used) {
-        return Outcome::Refused(Refusal::Unsupported);
+    if unfit(aps, used) || 1006 < plain.len() {
+        return Err(Refusal::Unsupported);
     }
-    if 1006 < plain.len() {
-        return Outcome::Refused(Refusal::Unsupported);
-    }
-    if plain.len() == 0 {
-        return Outcome::Refused(Refusal::Cut);
+    if plain.is_empty() {
+        return Err(Refusal::Cut);
     }
     kind_taken(ApsControl { byte: plain[0] }, plain.len())
 }
 
-// Data goes out only with the extended nonce, that is with a sender; a command always does.
-fn unasked(command: bool, extended: bool) -> bool
-    ensures { result ≡ not command && not extended }
-{
-    !command && !extended
-}
-
-// The row by which the frame goes out, its counter, and the room for the finished frame.
-fn sendable(found: PairFound, command: bool, extended: bool, size: usize, room: usize) -> Outcome
+// The row by which the frame goes out, its counter, and the room for the finished frame. Data goes out only with the extended nonce,
+// that is with a sender; a command always does.
+fn sendable(
+    found: Option<PairRow>,
+    command: bool,
+    extended: bool,
+    size: usize,
+    room: usize,
+) -> Result<PairRow, Refusal>
     requires { size ≤ 1006 }
-    ensures { result ≡ sendable (row_in found) command extended size room }
+    ensures { result ≡ sendable found command extended size room }
 {
-    if !found.found {
-        return Outcome::Refused(Refusal::NoPair);
+    let row = found.ok_or(Refusal::NoPair)?;
+    if row.outgoing == 4294967295 {
+        return Err(Refusal::CounterSpent);
     }
-    if found.row.outgoing == 4294967295 {
-        return Outcome::Refused(Refusal::CounterSpent);
-    }
-    if unasked(command, extended) {
-        return Outcome::Refused(Refusal::SenderAbsent);
+    if !command && !extended {
+        return Err(Refusal::SenderAbsent);
     }
     if room < size + ADDED {
-        return Outcome::Refused(Refusal::NoRoom);
+        return Err(Refusal::NoRoom);
     }
-    Outcome::Done
-}
-
-#[tactic(auto, unfolding(crate::specs::Sending::sent_by))]
-fn sent_by(found: PairFound, extended: bool, plain: &[u8], room: usize) -> Chosen
-    requires { (0 < length plain.now) × (length plain.now ≤ 1006) }
-    ensures { result ≡ sent_by (row_in found) extended plain.now room }
-{
-    let control = ApsControl { byte: plain[0] };
-    match identifier_for(plain, control) {
-        Chosen::Refused(refusal) => Chosen::Refused(refusal),
-        Chosen::Key(identifier) => {
-            match sendable(found, control.command(), extended, plain.len(), room) {
-                Outcome::Refused(refusal) => Chosen::Refused(refusal),
-                Outcome::Done => Chosen::Key(identifier),
-            }
-        }
-    }
+    Ok(row)
 }
 
 // All checks of securing, in order.
+#[tactic(auto, unfolding(crate::specs::Sending::judgement))]
 pub(crate) fn judged(
     aps: Aps,
     used: usize,
-    found: PairFound,
+    found: Option<PairRow>,
     extended: bool,
     plain: &[u8],
     room: usize,
-) -> Chosen
-    ensures { result ≡ judgement aps used (row_in found) extended plain.now room }
+) -> Result<Chosen, Refusal>
+    ensures { result ≡ judgement aps used found extended plain.now room }
 {
-    match plain_taken(aps, used, plain) {
-        Outcome::Refused(refusal) => Chosen::Refused(refusal),
-        Outcome::Done => sent_by(found, extended, plain, room),
-    }
+    plain_taken(aps, used, plain)?;
+    let control = ApsControl { byte: plain[0] };
+    let identifier = identifier_for(plain, control)?;
+    let row = sendable(found, control.command(), extended, plain.len(), room)?;
+    Ok(Chosen { row, identifier })
 }

@@ -2,51 +2,47 @@
 // keys and what is held, and has no row at hand.
 #![tactic(auto)]
 
-ghost use Rattle.std.specs.Prelude.{◌≡◌, not, ◌||◌, eqb, ltb};
-ghost use Rattle.nib.specs.Counters.{capacity};
+ghost use Rattle.std.specs.Prelude.{◌≡◌, not, ◌||◌, eqb, ltb, Ok};
+ghost use Rattle.claims.specs.declared.Who.TheVariants.{Claims};
+ghost use Rattle.nib.specs.Counters.{capacity, counter_in};
 ghost use Rattle.claims.proofs.ClaimLaws.{Sized};
-ghost use Rattle.judging.specs.OpenNwk.{active_after};
-ghost use Rattle.judging.specs.Halves.{freshness, judged_fresh, judged_heard, nwk_asked, caller_of, is_opened, verdict_of, heard_frame};
+ghost use Rattle.judging.specs.Halves.{held_of, room_of, judged_fresh, judged_heard, nwk_asked, caller_of, verdict_of, heard_frame};
 
-use answer::{Answer, Outcome, Refusal};
+use answer::{Accepted, Answer, Refusal};
 use claims::{Claim, Who};
-use nib::{Change, NetworkKeys, Nwk, Standing};
+use nib::{CounterRow, NetworkKeys, Nwk, Standing};
+use protection::Envelope;
 
-// Whose row is asked for; number and sender are 0 where the frame claims to be nobody's.
+// Whose row is asked for. Number and sender are 0 where the frame claims to be nobody's: it changes no row.
 #[derive(Clone, Copy)]
 pub struct Caller {
-    pub who: Who,
+    pub who: Result<Who, Refusal>,
     pub number: u8,
     pub sender: u64,
 }
 
-// The answer, the number of the active key after it, and what becomes of the table.
+// The answer, the number of the active key after it, and the row that is written, if one is.
 #[derive(Clone, Copy)]
 pub struct Verdict {
     pub answer: Answer,
     pub active: u8,
-    pub change: Change,
+    pub change: Option<CounterRow>,
 }
 
 // Level not 5, or a count in use above its capacity.
 fn unfit(nwk: Nwk, lent: usize, used: usize) -> bool
     ensures { result ≡ (not (eqb nwk.level 5) || (ltb 2 nwk.keys.used || ltb (capacity lent) used)) }
 {
-    if nwk.level != 5 {
-        return true;
-    }
-    if 2 < nwk.keys.used {
-        return true;
-    }
-    nib::capacity(lent) < used
+    nwk.level != 5 || 2 < nwk.keys.used || nib::capacity(lent) < used
 }
 
 // What the state and the headers settle, or else what they claim.
-fn asked(nwk: Nwk, lent: usize, used: usize, frame: &[u8]) -> Who
+#[tactic(auto, unfolding(crate::specs::Halves::nwk_asked))]
+fn asked(nwk: Nwk, lent: usize, used: usize, frame: &[u8]) -> Result<Who, Refusal>
     ensures { result ≡ nwk_asked nwk lent used frame.now }
 {
     if unfit(nwk, lent, used) {
-        return Who::Told(Answer::Refused(Refusal::Unsupported));
+        return Err(Refusal::Unsupported);
     }
     claims::nwk_who(nwk.keys, frame)
 }
@@ -56,126 +52,106 @@ pub fn caller_of(nwk: Nwk, lent: usize, used: usize, frame: &[u8]) -> Caller
 {
     let who = asked(nwk, lent, used, frame);
     match who {
-        Who::Told(_) => Caller {
+        Ok(Who::Claims(claim)) => Caller {
+            who,
+            number: claims::number_of(claim.key),
+            sender: claim.sender,
+        },
+        _ => Caller {
             who,
             number: 0,
             sender: 0,
         },
-        Who::Claims(claim) => {
-            let key_used = claim.key;
-            Caller {
-                who,
-                number: claims::number_of(key_used),
-                sender: claim.sender,
-            }
-        }
     }
 }
 
-// Whether a counter is above the held one, if one is held.
-fn fresh(standing: Standing, counter: u32) -> Outcome
-    ensures { result ≡ freshness standing counter }
+// The counter that is held, if one is.
+fn counter_of(standing: Standing) -> Option<u32>
+    ensures { result ≡ counter_in (held_of standing) }
 {
-    if !standing.found {
-        return Outcome::Done;
+    match standing {
+        Standing::Held(row) => Some(row.counter),
+        Standing::Free | Standing::Full => None,
     }
-    let row = standing.row;
-    if counter == row.counter {
-        return Outcome::Refused(Refusal::CounterRepeated);
+}
+
+fn has_room(standing: Standing) -> bool
+    ensures { result ≡ room_of standing }
+{
+    match standing {
+        Standing::Held(_) | Standing::Free => true,
+        Standing::Full => false,
     }
-    if counter < row.counter {
-        return Outcome::Refused(Refusal::CounterBehind);
-    }
-    Outcome::Done
 }
 
 // A frame whose counter is fresh: its size, its tag, and room for its row, in this order.
+#[tactic(auto, unfolding(crate::specs::Halves::judged_fresh))]
 fn judged_fresh(keys: NetworkKeys, claim: Claim, room: bool, frame: &mut [u8]) -> Answer
     requires { Sized claim frame.old }
-    ensures { (result ≡ (judged_fresh keys claim room frame.old).answer) × (frame.new ≡ (judged_fresh keys claim room frame.old).frame) }
+    ensures value { result ≡ (judged_fresh keys claim room frame.old).answer }
+    ensures frame_after { frame.new ≡ (judged_fresh keys claim room frame.old).frame }
 {
-    let key_used = claim.key;
-    let sender = claim.sender;
-    let counter = claim.counter;
-    let at = claim.at;
-    let payload = claim.payload;
-    if frame.len() - payload < 4 {
-        return Answer::Refused(Refusal::Cut);
+    if frame.len() - claim.payload < 4 {
+        return Err(Refusal::Cut);
     }
-    let found = nib::key_of(keys, claims::number_of(key_used));
-    let row = found.row;
-    let key = row.key;
-    if room {
-        if protection::unprotect(key, sender, counter, frame, at, payload) {
-            return Answer::Done {
-                start: payload,
-                len: frame.len() - 4 - payload,
-            };
-        }
-        return Answer::Refused(Refusal::WrongTag);
-    }
-    if protection::vouch(key, sender, counter, frame, at, payload) {
-        return Answer::Refused(Refusal::TableFull);
-    }
-    Answer::Refused(Refusal::WrongTag)
+    let envelope = Envelope {
+        key: nib::key_under(keys, claims::number_of(claim.key)),
+        sender: claim.sender,
+        counter: claim.counter,
+        at: claim.at,
+        payload: claim.payload,
+    };
+    envelope.open(room, frame)
 }
 
 // A frame that claims to be somebody's, by what is held for it.
 fn judged(keys: NetworkKeys, claim: Claim, standing: Standing, frame: &mut [u8]) -> Answer
     requires { Sized claim frame.old }
-    ensures { (result ≡ (judged_heard keys claim standing frame.old).answer) × (frame.new ≡ (judged_heard keys claim standing frame.old).frame) }
+    ensures value { result ≡ (judged_heard keys claim standing frame.old).answer }
+    ensures frame_after { frame.new ≡ (judged_heard keys claim standing frame.old).frame }
 {
-    match fresh(standing, claim.counter) {
-        Outcome::Refused(refusal) => Answer::Refused(refusal),
-        Outcome::Done => judged_fresh(keys, claim, standing.room, frame),
-    }
-}
-
-fn is_opened(answer: Answer) -> bool
-    ensures { result ≡ is_opened answer }
-{
-    match answer {
-        Answer::Done { start: _, len: _ } => true,
-        Answer::Plain { start: _, len: _ } => false,
-        Answer::Refused(_) => false,
-    }
-}
-
-fn active_after(active: u8, number: u8, answer: Answer) -> u8
-    ensures { result ≡ active_after active number answer }
-{
-    match answer {
-        Answer::Done { start: _, len: _ } => nib::turned(active, number),
-        Answer::Plain { start: _, len: _ } => active,
-        Answer::Refused(_) => active,
-    }
+    protection::fresh(counter_of(standing), claim.counter)?;
+    judged_fresh(keys, claim, has_room(standing), frame)
 }
 
 // The judgement. A frame that is refused keeps every byte.
-pub fn judge(nwk: Nwk, who: Who, standing: Standing, frame: &mut [u8]) -> Verdict
-    requires { (c : Claim) → who ≡ Who.Claims c → Sized c frame.old }
-    ensures { (result ≡ verdict_of nwk who standing frame.old) × (frame.new ≡ heard_frame nwk who standing frame.old) }
+pub fn judge(
+    nwk: Nwk,
+    who: Result<Who, Refusal>,
+    standing: Standing,
+    frame: &mut [u8],
+) -> Verdict
+    requires { (c : Claim) → who ≡ Ok (Claims c) → Sized c frame.old }
+    ensures value { result ≡ verdict_of nwk who standing frame.old }
+    ensures frame_after { frame.new ≡ heard_frame nwk who standing frame.old }
 {
+    let active = nwk.active;
+    let change = None;
     match who {
-        Who::Told(answer) => {
-            let row = nib::empty_row();
-            Verdict {
-                answer,
-                active: nwk.active,
-                change: Change { writes: false, row },
-            }
-        }
-        Who::Claims(claim) => {
-            let key_used = claim.key;
-            let number = claims::number_of(key_used);
+        Err(refusal) => Verdict {
+            answer: Err(refusal),
+            active,
+            change,
+        },
+        Ok(Who::Plain { start, len }) => Verdict {
+            answer: Ok(Accepted::Plain { start, len }),
+            active,
+            change,
+        },
+        Ok(Who::Claims(claim)) => {
+            let number = claims::number_of(claim.key);
             let answer = judged(nwk.keys, claim, standing, frame);
-            let active = active_after(nwk.active, number, answer);
-            let writes = is_opened(answer);
-            let row = nib::recorded_row(number, claim.sender, claim.counter);
-            Verdict {
-                answer,
-                active,
-                change: Change { writes, row },
+            match answer {
+                Ok(Accepted::Done { start: _, len: _ }) => Verdict {
+                    answer,
+                    active: nib::turned(active, number),
+                    change: Some(nib::recorded_row(number, claim.sender, claim.counter)),
+                },
+                _ => Verdict {
+                    answer,
+                    active,
+                    change,
+                },
             }
         }
     }

@@ -25,7 +25,7 @@ pub fn open_nwk(nwk: Nwk, rows: &mut [CounterRow], used: usize, frame: &mut [u8]
     let settled = counter_rows::settle(rows, used, verdict.change);
     OpenedNwk {
         answer: verdict.answer,
-        used: settled.used,
+        used: settled.unwrap_or(used),
         active: verdict.active,
     }
 }

@@ -3,15 +3,19 @@ ghost use Rattle.std.specs.Prelude.{◌≡◌};
 ghost use Rattle.securing.specs.SecureNwk.{secure_nwk};
 ghost use Rattle.nwk.specs.Leaves.{secured};
 
-use answer::Answer;
+use answer::{Accepted, Answer};
 use nib::{Nwk, Outgoing};
-use nwk_by_value::secure_with;
+use securing::{ADDED, finish, ready_for};
 
-// Secures the plain frame into `out`; what stands there past the finished frame stays.
+// Secures the plain frame into `out`; what stands there past the finished frame stays. Every check comes before the counter is taken.
 pub fn secure_nwk(nwk: Nwk, outgoing: &mut Outgoing, plain: &[u8], out: &mut [u8]) -> Answer
     ensures { secured result out.new outgoing.new ≡ secure_nwk nwk outgoing.old plain.now out.old }
 {
-    let secured = secure_with(nwk, *outgoing, plain, out);
-    *outgoing = secured.outgoing;
-    secured.answer
+    let header = ready_for(nwk, outgoing.next, plain, out.len())?;
+    let counter = counter_record::take(outgoing)?;
+    finish(nwk, counter, plain, out, header);
+    Ok(Accepted::Done {
+        start: 0,
+        len: plain.len() + ADDED,
+    })
 }

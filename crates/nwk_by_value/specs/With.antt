@@ -6,7 +6,7 @@ use Rattle.nwk_by_value.specs.declared.OpenedWith.{OpenedWith}
 use Rattle.nwk_by_value.specs.declared.SecuredWith.{SecuredWith}
 
 abbrev pub opened_with : OpenedWith → List ℕ → Opened
-opened_with r frame = record { answer = r.answer; frame = frame; rows = r.rows; used = r.used; active = r.active }
+opened_with r frame = record { answer = r.answer; frame = frame; rows = r.table.rows; used = r.table.used; active = r.active }
 
 abbrev pub secured_with : SecuredWith → List ℕ → Secured
 secured_with r out = record { answer = r.answer; out = out; outgoing = r.outgoing }

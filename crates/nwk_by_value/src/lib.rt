@@ -1,5 +1,5 @@
-// Opening and securing NWK with the counters by value, for callers that lend no struct: the steps of `nwk`, with rows and record handed on
-// and back.
+// Opening and securing NWK with the counters by value, for callers that lend no struct. Each lends its own copy to the call of `nwk`, and
+// hands the copy back.
 #![tactic(auto)]
 
 ghost use Rattle.std.specs.Prelude.{◌≡◌};
@@ -8,37 +8,27 @@ ghost use Rattle.securing.specs.SecureNwk.{secure_nwk};
 ghost use Rattle.nwk_by_value.specs.With.{opened_with, secured_with};
 
 use answer::Answer;
-use by_value::{held_with, settle_with, take_with};
-use judging::{caller_of, judge};
-use nib::{CounterRow, Nwk, Outgoing};
-use securing::{finish, ready_for};
+use by_value::CounterTable;
+use nib::{Nwk, Outgoing};
 
 // What `open_nwk` answers, and the counter rows after it.
 #[derive(Clone, Copy)]
 pub struct OpenedWith {
-    pub rows: [CounterRow; 64],
-    pub used: usize,
+    pub table: CounterTable,
     pub active: u8,
     pub answer: Answer,
 }
 
 // `open_nwk`, with 64 counter rows by value.
-pub fn open_with(nwk: Nwk, rows: [CounterRow; 64], used: usize, frame: &mut [u8]) -> OpenedWith
-    ensures { opened_with result frame.new ≡ open_nwk nwk rows used frame.old }
+pub fn open_with(nwk: Nwk, mut table: CounterTable, frame: &mut [u8]) -> OpenedWith
+    ensures { opened_with result frame.new ≡ open_nwk nwk table.rows table.used frame.old }
 {
-    let caller = caller_of(nwk, 64, used, frame);
-    let standing = held_with(rows, used, caller.number, caller.sender);
-    let who = caller.who;
-    let verdict = judge(nwk, who, standing, frame);
-    let answer = verdict.answer;
-    let change = verdict.change;
-    let settled = settle_with(rows, used, change);
-    let rows = settled.rows;
+    let opened = nwk::open_nwk(nwk, &mut table.rows, table.used, frame);
+    table.used = opened.used;
     OpenedWith {
-        rows,
-        used: settled.used,
-        active: verdict.active,
-        answer,
+        table,
+        active: opened.active,
+        answer: opened.answer,
     }
 }
 
@@ -50,16 +40,9 @@ pub struct SecuredWith {
 }
 
 // `secure_nwk`, with the outgoing counter by value.
-pub fn secure_with(nwk: Nwk, outgoing: Outgoing, plain: &[u8], out: &mut [u8]) -> SecuredWith
+pub fn secure_with(nwk: Nwk, mut outgoing: Outgoing, plain: &[u8], out: &mut [u8]) -> SecuredWith
     ensures { secured_with result out.new ≡ secure_nwk nwk outgoing plain.now out.old }
 {
-    let ready = ready_for(nwk, outgoing.next, plain, out.len());
-    let answer = ready.answer;
-    if !ready.go {
-        return SecuredWith { answer, outgoing };
-    }
-    let taken = take_with(outgoing);
-    finish(nwk, taken.counter, plain, out, ready.header);
-    let outgoing = taken.outgoing;
+    let answer = nwk::secure_nwk(nwk, &mut outgoing, plain, out);
     SecuredWith { answer, outgoing }
 }

@@ -17,22 +17,19 @@ pub struct ToldAps {
 }
 
 // Opens a frame in place.
-pub fn pouchkettle_open_aps(aps: Aps, pairs: Pairs, frame: &mut [u8]) -> ToldAps
+pub fn pouchkettle_open_aps(aps: Aps, mut pairs: Pairs, frame: &mut [u8]) -> ToldAps
     ensures { (result.told ≡ told (open_aps aps pairs frame.old).answer)
         × (result.pairs ≡ (open_aps aps pairs frame.old).pairs)
         × (frame.new ≡ (open_aps aps pairs frame.old).frame) }
 {
-    let opened = aps::open_aps(aps, pairs, frame);
-    ToldAps {
-        told: answer::told_of(opened.answer),
-        pairs: opened.pairs,
-    }
+    let told = Told::from(aps::open_aps(aps, &mut pairs, frame));
+    ToldAps { told, pairs }
 }
 
 // Secures the plain frame for a device into `out`; what stands there past the finished frame stays.
 pub fn pouchkettle_secure_aps(
     aps: Aps,
-    pairs: Pairs,
+    mut pairs: Pairs,
     device: u64,
     extended: bool,
     plain: &[u8],
@@ -42,9 +39,9 @@ pub fn pouchkettle_secure_aps(
         × (result.pairs ≡ (secure_aps aps pairs device extended plain.now out.old).pairs)
         × (out.new ≡ (secure_aps aps pairs device extended plain.now out.old).out) }
 {
-    let secured = aps::secure_aps(aps, pairs, device, extended, plain, out);
+    let secured = aps::secure_aps(aps, &mut pairs, device, extended, plain, out);
     ToldAps {
-        told: answer::told_of(secured.answer),
-        pairs: secured.pairs,
+        told: Told::from(secured),
+        pairs,
     }
 }

@@ -41,12 +41,12 @@ pub fn pouchkettle_hash_add(state: Hashing, part: &[u8]) -> ToldHashing
     ensures { (result.number ≡ outcome_number (hashing (state.total + length part.now)))
         × (result.state ≡ after_adding state part.now) }
 {
-    let added = mmo::hash_add(state, part);
-    let outcome = added.outcome;
-    let state = added.state;
-    ToldHashing {
-        number: answer::outcome_number(outcome),
-        state,
+    match mmo::hash_add(state, part) {
+        Ok(state) => ToldHashing { number: 0, state },
+        Err(refusal) => ToldHashing {
+            number: u8::from(refusal),
+            state,
+        },
     }
 }
 
@@ -55,11 +55,11 @@ pub fn pouchkettle_hash_finish(state: Hashing) -> ToldDigest
     ensures { (result.number ≡ outcome_number (hashing state.total))
         × (result.value ≡ when_done (hashing state.total) (finished state) zero_block) }
 {
-    let digest = mmo::hash_finish(state);
-    let outcome = digest.outcome;
-    let value = digest.value;
-    ToldDigest {
-        number: answer::outcome_number(outcome),
-        value,
+    match mmo::hash_finish(state) {
+        Ok(value) => ToldDigest { number: 0, value },
+        Err(refusal) => ToldDigest {
+            number: u8::from(refusal),
+            value: [0; 16],
+        },
     }
 }

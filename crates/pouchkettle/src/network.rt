@@ -7,8 +7,8 @@ ghost use Rattle.judging.specs.OpenNwk.{open_nwk};
 ghost use Rattle.securing.specs.SecureNwk.{secure_nwk};
 ghost use Rattle.pouchkettle.specs.Told.{told_nwk, told_rows};
 
-use answer::Told;
-use nib::{CounterRow, Nwk, Outgoing, Recorded};
+use answer::{Refusal, Told};
+use nib::{CounterRow, Nwk, Outgoing};
 use nwk::OpenedNwk;
 
 // What opening tells, how many counter rows are in use after it, and the number of the active key.
@@ -25,7 +25,7 @@ fn told_nwk(opened: OpenedNwk) -> ToldNwk
     ensures { result ≡ record { told = told opened.answer; used = opened.used; active = opened.active } }
 {
     ToldNwk {
-        told: answer::told_of(opened.answer),
+        told: Told::from(opened.answer),
         used: opened.used,
         active: opened.active,
     }
@@ -56,7 +56,7 @@ pub fn pouchkettle_secure_nwk(
         × (outgoing.new ≡ (secure_nwk nwk outgoing.old plain.now out.old).outgoing)
         × (out.new ≡ (secure_nwk nwk outgoing.old plain.now out.old).out) }
 {
-    answer::told_of(nwk::secure_nwk(nwk, outgoing, plain, out))
+    Told::from(nwk::secure_nwk(nwk, outgoing, plain, out))
 }
 
 // A number, and how many counter rows are in use after the call.
@@ -67,23 +67,18 @@ pub struct ToldRows {
     pub used: usize,
 }
 
-// What forgetting answers, in numbers.
-fn told_rows(recorded: Recorded) -> ToldRows
-    ensures { result ≡ record { number = outcome_number recorded.outcome; used = recorded.used } }
-{
-    let outcome = recorded.outcome;
-    ToldRows {
-        number: answer::outcome_number(outcome),
-        used: recorded.used,
-    }
-}
-
 // Forgets what was heard under a key number: for a key that goes.
 pub fn pouchkettle_forget(rows: &mut [CounterRow], used: usize, number: u8) -> ToldRows
     ensures { (result ≡ told_rows (forgotten rows.old used number))
         × (rows.new ≡ (forgotten rows.old used number).rows) }
 {
-    told_rows(counter_rows::forget(rows, used, number))
+    match counter_rows::forget(rows, used, number) {
+        Ok(used) => ToldRows { number: 0, used },
+        Err(refusal) => ToldRows {
+            number: u8::from(refusal),
+            used,
+        },
+    }
 }
 
 // The outgoing counter after a change of key.

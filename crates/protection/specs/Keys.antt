@@ -1,5 +1,5 @@
 -- Which key protects a frame (document 01, Protection; ZB 4.4.1.1, 4.4.1.2 and 4.5.3).
-use Rattle.std.specs.Prelude.{Bool, true, false, List, [], ◌∷◌, ℕ, replicate}
+use Rattle.std.specs.Prelude.{Bool, true, false, cond, List, [], ◌∷◌, ℕ, replicate, Option, Some, None}
 use Rattle.control.specs.declared.KeyIdentifier.{KeyIdentifier}
 use Rattle.control.specs.declared.KeyIdentifier.TheVariants.{Link, Network, Transport, Load}
 use Rattle.primitives.specs.KeyedHash.{keyed_hash}
@@ -18,3 +18,7 @@ key_for Link link = picks link
 key_for Network link = record { refused = true; key = replicate 16 0 }
 key_for Transport link = picks (keyed_hash link (0x00 ∷ []))
 key_for Load link = picks (keyed_hash link (0x02 ∷ []))
+
+-- the key, if there is one
+abbrev pub chosen : Choice → Option (List ℕ)
+chosen c = cond c.refused None (Some c.key)

@@ -2,81 +2,103 @@
 // associated data, and cleared on the air.
 #![tactic(auto)]
 
-ghost use Rattle.std.specs.Prelude.{◌≡◌, cond, ◌++◌, ◌+◌, ◌≤◌, ◌<◌, length, take, drop};
+ghost use Rattle.std.specs.Prelude.{◌≡◌, ◌++◌, ◌+◌, ◌≤◌, ◌<◌, length, take, drop};
+ghost use Rattle.answer.specs.Numbers.{when_done};
 ghost use Rattle.protection.specs.Protection.{vouches, opened_octets, secured_octets};
+ghost use Rattle.protection.specs.Heard.{freshness, vouching, tried};
 
-use answer::Outcome;
+use answer::{Accepted, Answer, Refusal};
 use control::Control;
+use std::cmp::Ordering;
 
 // The level of document 01, and the length of its tag.
 const LEVEL: u8 = 5;
 
 const TAG: usize = 4;
 
-// Opens the frame where its tag is right: payload plain, level filled in. Else every byte stays.
-pub fn unprotect(
-    key: [u8; 16],
-    sender: u64,
-    counter: u32,
-    frame: &mut [u8],
-    at: usize,
-    payload: usize,
-) -> bool
-    requires { (at < payload) × (payload + 4 ≤ length frame.old) × (length frame.old ≤ 1024) }
-    ensures { (result ≡ vouches key sender counter at payload frame.old)
-        × (frame.new ≡ cond result (opened_octets key sender counter at payload frame.old) frame.old) }
+// Whether a counter is above the held one, if one is held.
+pub fn fresh(held: Option<u32>, counter: u32) -> Result<(), Refusal>
+    ensures { result ≡ freshness held counter }
 {
-    let keys = aes::expand(key);
-    let sent = frame[at];
-    let control = Control { byte: sent }.filled(LEVEL);
-    let nonce = auxiliary_header::nonce(sender, counter, control);
-    let size = frame.len() - TAG - payload;
-    frame[at] = control.byte;
-    match ccm::unseal(&keys, nonce, TAG, frame, payload, size) {
-        Outcome::Done => true,
-        Outcome::Refused(_) => {
-            frame[at] = sent;
-            false
-        }
+    let Some(held) = held else {
+        return Ok(());
+    };
+    match counter.cmp(&held) {
+        Ordering::Equal => Err(Refusal::CounterRepeated),
+        Ordering::Less => Err(Refusal::CounterBehind),
+        Ordering::Greater => Ok(()),
     }
 }
 
-// Whether the frame's tag is right; the frame itself is left alone.
-pub fn vouch(
-    key: [u8; 16],
-    sender: u64,
-    counter: u32,
-    frame: &[u8],
-    at: usize,
-    payload: usize,
-) -> bool
-    requires { (at < payload) × (payload + 4 ≤ length frame.now) × (length frame.now ≤ 1024) }
-    ensures { result ≡ vouches key sender counter at payload frame.now }
-{
-    let mut aside = [0u8; 1024];
-    let n = frame.len();
-    octets::copy(frame, &mut aside);
-    unprotect(key, sender, counter, &mut aside[..n], at, payload)
+// What protects a frame, and where: `at` is the place of its control byte, `payload` the place after its headers.
+#[derive(Clone, Copy)]
+pub struct Envelope {
+    pub key: [u8; 16],
+    pub sender: u64,
+    pub counter: u32,
+    pub at: usize,
+    pub payload: usize,
 }
 
-// Seals the n bytes from `payload` on, after headers whose control byte is as it goes on the air, and puts the tag after them.
-pub fn protect(
-    key: [u8; 16],
-    sender: u64,
-    counter: u32,
-    out: &mut [u8],
-    at: usize,
-    payload: usize,
-    n: usize,
-)
-    requires { (at < payload) × (payload ≤ 1024) × (n ≤ 1024) × (payload + n + 4 ≤ length out.old) }
-    ensures { out.new ≡ secured_octets key sender counter at (take payload out.old) (take n (drop payload out.old)) ++ drop (payload + n + 4) out.old }
-{
-    let keys = aes::expand(key);
-    let sent = out[at];
-    let control = Control { byte: sent }.filled(LEVEL);
-    let nonce = auxiliary_header::nonce(sender, counter, control);
-    out[at] = control.byte;
-    ccm::seal(&keys, nonce, TAG, out, payload, n);
-    out[at] = sent;
+impl Envelope {
+    // Opens the frame where its tag is right: payload plain, level filled in. Else every byte stays.
+    pub fn unprotect(self, frame: &mut [u8]) -> Result<(), Refusal>
+        requires { (self.at < self.payload) × (self.payload + 4 ≤ length frame.old) × (length frame.old ≤ 1024) }
+        ensures value { result ≡ vouching (vouches self.key self.sender self.counter self.at self.payload frame.old) }
+        ensures frame_after { frame.new ≡ when_done result (opened_octets self.key self.sender self.counter self.at self.payload frame.old) frame.old }
+    {
+        let keys = aes::expand(self.key);
+        let sent = frame[self.at];
+        let control = Control { byte: sent }.filled(LEVEL);
+        let nonce = auxiliary_header::nonce(self.sender, self.counter, control);
+        let size = frame.len() - TAG - self.payload;
+        frame[self.at] = control.byte;
+        let opened = ccm::unseal(&keys, nonce, TAG, frame, self.payload, size);
+        if opened.is_err() {
+            frame[self.at] = sent;
+        }
+        opened
+    }
+
+    // Whether the frame's tag is right; the frame itself is left alone.
+    pub fn vouch(self, frame: &[u8]) -> Result<(), Refusal>
+        requires { (self.at < self.payload) × (self.payload + 4 ≤ length frame.now) × (length frame.now ≤ 1024) }
+        ensures { result ≡ vouching (vouches self.key self.sender self.counter self.at self.payload frame.now) }
+    {
+        let mut aside = [0u8; 1024];
+        let n = frame.len();
+        octets::copy(frame, &mut aside);
+        self.unprotect(&mut aside[..n])
+    }
+
+    // The tag is checked before the room for a new row; without room nothing is opened.
+    pub fn open(self, room: bool, frame: &mut [u8]) -> Answer
+        requires { (self.at < self.payload) × (self.payload + 4 ≤ length frame.old) × (length frame.old ≤ 1024) }
+        ensures value { result ≡ (tried self.key self.sender self.counter self.at self.payload room frame.old).answer }
+        ensures frame_after { frame.new ≡ (tried self.key self.sender self.counter self.at self.payload room frame.old).frame }
+    {
+        if !room {
+            self.vouch(frame)?;
+            return Err(Refusal::TableFull);
+        }
+        self.unprotect(frame)?;
+        Ok(Accepted::Done {
+            start: self.payload,
+            len: frame.len() - TAG - self.payload,
+        })
+    }
+
+    // Seals the n bytes from `payload` on, after headers whose control byte is as it goes on the air, and puts the tag after them.
+    pub fn protect(self, out: &mut [u8], n: usize)
+        requires { (self.at < self.payload) × (self.payload ≤ 1024) × (n ≤ 1024) × (self.payload + n + 4 ≤ length out.old) }
+        ensures { out.new ≡ secured_octets self.key self.sender self.counter self.at (take self.payload out.old) (take n (drop self.payload out.old)) ++ drop (self.payload + n + 4) out.old }
+    {
+        let keys = aes::expand(self.key);
+        let sent = out[self.at];
+        let control = Control { byte: sent }.filled(LEVEL);
+        let nonce = auxiliary_header::nonce(self.sender, self.counter, control);
+        out[self.at] = control.byte;
+        ccm::seal(&keys, nonce, TAG, out, self.payload, n);
+        out[self.at] = sent;
+    }
 }

@@ -4,9 +4,13 @@ ghost use Rattle.securing.specs.SecureNwk.{nwk_added, nwk_headers, nwk_on_air};
 
 use control::{Control, KeyIdentifier};
 use nib::Nwk;
+use protection::Envelope;
 
 // The length of the auxiliary header that NWK sends, with sender and key number.
 pub(crate) const AUXILIARY: usize = 14;
+
+// What securing adds: the auxiliary header, and a tag of 4.
+pub const ADDED: usize = AUXILIARY + 4;
 
 // Lays header, auxiliary header and payload into `out`, all still plain.
 fn lay(nwk: Nwk, counter: u32, plain: &[u8], out: &mut [u8], header: usize)
@@ -23,7 +27,8 @@ fn lay(nwk: Nwk, counter: u32, plain: &[u8], out: &mut [u8], header: usize)
         counter,
         nwk.own,
         nwk.active,
-    );
+    )
+    .unwrap();
     octets::copy(&plain[header..], &mut out[payload..]);
 }
 
@@ -32,10 +37,13 @@ pub fn finish(nwk: Nwk, counter: u32, plain: &[u8], out: &mut [u8], header: usiz
     requires { (header ≤ length plain.now) × (length plain.now ≤ 1006) × (length plain.now + nwk_added ≤ length out.old) }
     ensures { out.new ≡ nwk_on_air nwk counter plain.now header ++ drop (length plain.now + nwk_added) out.old }
 {
-    let found = nib::key_of(nwk.keys, nwk.active);
-    let row = found.row;
-    let key = row.key;
-    let size = plain.len() - header;
     lay(nwk, counter, plain, out, header);
-    protection::protect(key, nwk.own, counter, out, header, header + AUXILIARY, size);
+    let envelope = Envelope {
+        key: nib::key_under(nwk.keys, nwk.active),
+        sender: nwk.own,
+        counter,
+        at: header,
+        payload: header + AUXILIARY,
+    };
+    envelope.protect(out, plain.len() - header);
 }
