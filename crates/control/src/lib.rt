@@ -5,13 +5,13 @@ ghost use Rattle.std.specs.Prelude.{◌≡◌};
 ghost use Rattle.tables.specs.Levels.{tag_length};
 ghost use Rattle.control.specs.Control.{level, filled, identifier_of, has_sender, has_number, sent};
 
-#[derive(Clone, Copy)]
+#[derive(Clone, Copy, Debug, PartialEq, Eq)]
 pub struct Control {
     pub byte: u8,
 }
 
 // ZB 4.5.1.1.2: numbers 0 to 3.
-#[derive(Clone, Copy)]
+#[derive(Clone, Copy, Debug, PartialEq, Eq)]
 pub enum KeyIdentifier {
     Link,
     Network,
@@ -45,6 +45,7 @@ impl Control {
     }
 
     // Bits 0 to 2 become the level's; no other bit changes.
+    #[tactic(auto, using(crate::proofs::Bits::masked_fill))]
     pub fn filled(self, wanted: u8) -> Control
         ensures { result.byte ≡ filled self.byte wanted }
     {
@@ -59,6 +60,7 @@ impl Control {
         self.filled(0)
     }
 
+    #[tactic(auto, using(crate::proofs::Bits::masked_identifier), unfolding(crate::specs::Control::identifier_of))]
     pub fn key(self) -> KeyIdentifier
         ensures { result ≡ identifier_of self.byte }
     {
@@ -72,12 +74,14 @@ impl Control {
     }
 
     // ZB 4.5.1.1.3 names bit 5 alone; the Rust's reading is kept.
+    #[tactic(auto, using(crate::proofs::Bits::upper_bits))]
     pub fn has_sender(self) -> bool
         ensures { result ≡ has_sender self.byte }
     {
         self.byte >> 5 != 0
     }
 
+    #[tactic(auto, using(crate::proofs::Bits::masked_number))]
     pub fn has_number(self) -> bool
         ensures { result ≡ has_number self.byte }
     {
