@@ -1,20 +1,19 @@
 -- Opening NWK (document 01, 'Order of checks'): a judgement that only reads, and then one commit.
-use Rattle.std.specs.Prelude.{Err, Ok}
-use Rattle.std.specs.Prelude.{Bool, cond, not, ◌||◌, List, ℕ, ◌+◌, eqb, ltb, length, take}
-use Rattle.std.specs.Prelude.{Option}
+use Rattle.std.specs.Prelude.{Bool, cond, not, ◌||◌, List, ℕ, ◌+◌, eqb, ltb, length, take, Option, Result, Ok, Err}
 use Rattle.answer.specs.Numbers.{Answer}
 use Rattle.answer.specs.declared.Accepted.TheVariants.{Done, Plain}
+use Rattle.answer.specs.declared.Refusal.{Refusal}
 use Rattle.answer.specs.declared.Refusal.TheVariants.{Unsupported, Cut, CounterRepeated, CounterBehind, WrongTag, TableFull}
 use Rattle.cells.specs.Rows.{Reaction, leave, become, Settled, find, settle}
 use Rattle.nib.specs.declared.counters.CounterRow.{CounterRow}
 use Rattle.nib.specs.declared.keys.NetworkKeys.{NetworkKeys}
 use Rattle.nib.specs.Active.{turn}
 use Rattle.nib.specs.Counters.{Cell, counting, counter_in, counter_rows, capacity, over, pair}
-use Rattle.nib.specs.Keys.{key_found}
+use Rattle.nib.specs.Keys.{key_under}
 use Rattle.nib.specs.Pairs.{Pair}
 use Rattle.claims.specs.declared.Claim.{Claim}
 use Rattle.claims.specs.declared.Who.{Who}
-use Rattle.claims.specs.declared.Who.TheVariants.{Told, Claims}
+use Rattle.claims.specs.declared.Who.TheVariants as who
 use Rattle.nib.specs.declared.state.Nwk.{Nwk}
 use Rattle.claims.specs.Claims.{number_of, nwk_who}
 use Rattle.protection.specs.Heard.{Heard, refused, equals, below}
@@ -24,7 +23,7 @@ use Rattle.protection.specs.Protection.{level, tag_size, payload_size, vouches, 
 -- and no free one: 42. Else 0: payload plain, level bits of the control byte 5; the pair's row holds the counter.
 unfoldable pub nwk_judged : NetworkKeys → Claim → Option Cell → List ℕ → Reaction Heard Cell
 nwk_judged keys c held b =
-    let key : List ℕ = (key_found keys (number_of c.key)).row.key in
+    let key : List ℕ = key_under keys (number_of c.key) in
     cond (equals (counter_in held) c.counter) (leave (refused CounterRepeated b))
     (cond (below (counter_in held) c.counter) (leave (refused CounterBehind b))
     (cond (ltb (length b) (c.payload + tag_size)) (leave (refused Cut b))
@@ -61,9 +60,10 @@ nwk_committed s rows k t = record {
   active = active_after s.active k.number t.out.answer;
 }
 
-unfoldable pub nwk_placed : Nwk → List CounterRow → ℕ → List ℕ → Who → Opened
-nwk_placed s rows used b (Told a) = unchanged s rows used (record { answer = a; frame = b })
-nwk_placed s rows used b (Claims c) =
+unfoldable pub nwk_placed : Nwk → List CounterRow → ℕ → List ℕ → Result Who Refusal → Opened
+nwk_placed s rows used b (Err why) = unchanged s rows used (refused why b)
+nwk_placed s rows used b (Ok (who.Plain start len)) = unchanged s rows used (record { answer = Ok (Plain start len); frame = b })
+nwk_placed s rows used b (Ok (who.Claims c)) =
     let k : Pair = pair (number_of c.key) c.sender in
     nwk_committed s rows k
     (settle counter_rows (capacity (length rows)) (take used rows) k (nwk_judged s.keys c (find counter_rows (take used rows) k) b))

@@ -1,5 +1,5 @@
 -- The network keys (document 01, 'The state'): a table of rows, each with a number and a key.
-use Rattle.std.specs.Prelude.{ℕ, eqb, List, take, Option, option_map, refl}
+use Rattle.std.specs.Prelude.{ℕ, eqb, List, take, replicate, Option, Some, None, option_map, refl}
 use Rattle.std.proofs.Common.{eq-eqb, eqb-true}
 use Rattle.cells.specs.Rows.{Rows, find}
 use Rattle.nib.specs.declared.keys.NetworkKey.{NetworkKey}
@@ -24,3 +24,11 @@ key_rows = record {
 -- the first row of that number among those in use
 unfoldable pub key_found : NetworkKeys → ℕ → Option NetworkKey
 key_found keys n = option_map (key_row n) (find key_rows (take keys.used keys.rows) n)
+
+-- the key of that number; zeros where there is none
+abbrev pub key_in : Option NetworkKey → List ℕ
+key_in None = replicate 16 0
+key_in (Some row) = row.key
+
+abbrev pub key_under : NetworkKeys → ℕ → List ℕ
+key_under keys n = key_in (key_found keys n)

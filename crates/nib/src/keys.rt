@@ -1,7 +1,7 @@
 // The network keys (ZB table 4-3; document 01, 'The state'): at most two, the active one and the next.
 // No Debug and no PartialEq: a key is not printed, and is not compared byte by byte up to the first difference.
 ghost use Rattle.std.specs.Prelude.{◌≡◌};
-ghost use Rattle.nib.specs.Keys.{key_row, key_found};
+ghost use Rattle.nib.specs.Keys.{key_row, key_found, key_under};
 
 #[repr(C)]
 #[derive(Clone, Copy)]
@@ -34,4 +34,14 @@ pub fn key_of(keys: NetworkKeys, number: u8) -> Option<NetworkKey>
         .iter()
         .find(|row| row.number == number)
         .copied()
+}
+
+// The key of that number; zeros where there is none.
+pub fn key_under(keys: NetworkKeys, number: u8) -> [u8; 16]
+    ensures { result ≡ key_under keys number }
+{
+    match key_of(keys, number) {
+        Some(row) => row.key,
+        None => [0; 16],
+    }
 }

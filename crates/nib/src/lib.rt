@@ -10,6 +10,6 @@ mod state;
 
 pub use active::{following, turned};
 pub use counters::{CounterRow, Standing, capacity, empty_row, recorded_row};
-pub use keys::{NetworkKey, NetworkKeys, key_of, key_row};
+pub use keys::{NetworkKey, NetworkKeys, key_of, key_row, key_under};
 pub use outgoing::{Outgoing, reset, sending, usable};
 pub use state::Nwk;

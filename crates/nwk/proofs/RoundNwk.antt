@@ -27,7 +27,7 @@ use Rattle.frame_header.specs.NwkLaws.{nwk-whole, same-control, same_length}
 use Rattle.nib.specs.declared.counters.CounterRow.{CounterRow}
 use Rattle.nib.specs.declared.outgoing.Outgoing.{Outgoing}
 use Rattle.nib.specs.Counters.{Cell, counting, counter_in, counter_rows, capacity, pair}
-use Rattle.nib.specs.Keys.{key_found}
+use Rattle.nib.specs.Keys.{key_found, key_under}
 use Rattle.claims.specs.declared.Claim.{Claim}
 use Rattle.claims.specs.declared.Who.TheVariants.{Claims}
 use Rattle.claims.specs.Claims.{spent, nwk_who}
@@ -60,7 +60,7 @@ module _ (s : Nwk) (o : Outgoing) (plain out : List ℕ) (start len : ℕ) (done
   payload = drop header plain
 
   abbrev key : List ℕ
-  key = (key_found s.keys s.active).row.key
+  key = (key_under s.keys s.active)
 
   abbrev headers : List ℕ
   headers = nwk_headers s o.next plain header

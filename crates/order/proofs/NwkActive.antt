@@ -1,7 +1,7 @@
 -- The active number at the end of a list. A frame opens only under the number of one of the keys. So with at most two keys, the active
 -- number a one of theirs, it ends as the next number if a frame opened under that, and else as it was: once it has moved, a, the next
 -- and the one after that would be three numbers. Which frames open does not depend on the order. Assumes nothing.
-use Rattle.std.specs.Prelude.{Err, Ok}
+use Rattle.std.specs.Prelude.{Err, Ok, is_some}
 use Rattle.std.specs.Prelude.{◌≡◌, ◌⊎◌, Bool, not, ◌||◌, length, take, eqb, ltb}
 use Rattle.std.proofs.Math.Path.{refl}
 use Rattle.std.proofs.Common.{sym, ap, ◌∙◌, inl, inr, arith, length-take, eqb-true}
@@ -69,7 +69,7 @@ found_number (r ∷ rs) n key e = at (eqb r.number n) refl e (found_number rs n 
     at true q f ih = here (sym (eqb-true r.number n q))
     at false q f ih = there (ih f)
 
-key-number : (keys : NetworkKeys) (n : ℕ) → (key_found keys n).found ≡ true → Mem n (numbers keys)
+key-number : (keys : NetworkKeys) (n : ℕ) → is_some (key_found keys n) ≡ true → Mem n (numbers keys)
 unfolding key_found
 key-number keys n e = at (find key_rows (take keys.used keys.rows) n) refl e
   where
@@ -90,9 +90,9 @@ module _ (keys : NetworkKeys) (b : List ℕ) (k : Pair) where
     where
       by-sender : (a : Auxiliary) (at : ℕ) (s : Sender) → Named (nwk_named keys a at s)
       by-sender a at Absent = none_named
-      by-sender a at (Address s) = either Named (not (is_network a.key)) none_named (by_key (key_found keys (number_of a.key)).found refl)
+      by-sender a at (Address s) = either Named (not (is_network a.key)) none_named (by_key (is_some (key_found keys (number_of a.key))) refl)
         where
-          by_key : (t : Bool) → (key_found keys (number_of a.key)).found ≡ t → Named (cond (not t) (refuse NoNetworkKey) (claimed a s at))
+          by_key : (t : Bool) → is_some (key_found keys (number_of a.key)) ≡ t → Named (cond (not t) (refuse NoNetworkKey) (claimed a s at))
           by_key false q = none_named
           by_key true q = λ e. Memᴰ.cast (ap (λ (x : Pair). x.number) (sym (same_Some (pair (number_of a.key) s) k e))) (key-number keys (number_of a.key) q)
 

@@ -1,6 +1,6 @@
 -- P1 TO P10: document 01's cases that are marked P, as one list, on the definitions that the promises use. That there are frames and states as the
 -- records here ask for is shown in the crates `needed` and `needed_aps`, proofs/Inhabited.antt. Assumes nothing.
-use Rattle.std.specs.Prelude.{Ok}
+use Rattle.std.specs.Prelude.{Ok, is_some}
 use Rattle.std.specs.Prelude.{◌≡◌, refl, Bool, true, false, cond, List, [], ◌∷◌, ℕ, ◌≤◌, ◌<◌, length, take}
 use Rattle.std.proofs.Common.{ap, ◌∙◌, arith, eq-eqb, le-ltb}
 use Rattle.std.specs.Prelude.{Some}
@@ -78,7 +78,7 @@ pub record NwkSends (s : Nwk) (plain : List ℕ) : Type 0 where
   pub framed : nwk_of plain ≡ nwk.Whole header
   pub kind : header.kind < 2
   pub secured : header.secured ≡ true
-  pub key : (key_found s.keys s.active).found ≡ true
+  pub key : is_some (key_found s.keys s.active) ≡ true
 
 pub record Cases : Type 0 where
   -- NWK control sent, filled: 0x28, 0x2D

@@ -1,5 +1,5 @@
 -- What a securing of NWK comes to: a refusal, or a finished frame. Assumes nothing.
-use Rattle.std.specs.Prelude.{◌≡◌, ◌||◌, List, ℕ, ◌+◌, ◌≤◌, eqb, length}
+use Rattle.std.specs.Prelude.{◌≡◌, ◌||◌, List, ℕ, ◌+◌, ◌≤◌, eqb, length, is_some}
 use Rattle.std.proofs.Math.Bool.{true, not}
 use Rattle.std.proofs.Math.Dec.{leb, ltb}
 use Rattle.std.proofs.Common.{leb-true}
@@ -29,6 +29,6 @@ module _ (s : Nwk) (o : Outgoing) (plain out : List ℕ) where
           → Sent (nwk_framed s o plain out (nwk.Whole (record { len = nwk_length plain; kind = nwk_kind (nwk_control plain); secured = bit 9 (nwk_control plain) })))
       framed whole =
           either Sent (leb 2 (nwk_kind (nwk_control plain)) || not (bit 9 (nwk_control plain))) (not-sent _)
-          (either Sent (not (key_found s.keys s.active).found) (not-sent _)
+          (either Sent (not (is_some (key_found s.keys s.active))) (not-sent _)
           (which Sent (not (may_use o)) (λ t. not-sent _) (λ usable.
           either Sent (ltb (length out) (length plain + nwk_added)) (not-sent _) (sent (leb-true _ _ whole) (not-not _ usable)))))

@@ -1,5 +1,5 @@
 -- The frame reader (document 01): fields act in order, from level 5, active 0 and empty tables; a line for each frame.
-use Rattle.std.specs.Prelude.{ℕ, zero, suc, ◌+◌, ◌-◌, ◌%◌, ◌^◌, cond, not, List, [], ◌∷◌, length, take, drop, replicate, ◌==◌, nat_le, nat_lt, slice_index, slice_set}
+use Rattle.std.specs.Prelude.{ℕ, zero, suc, ◌+◌, ◌-◌, ◌%◌, ◌^◌, cond, not, List, [], ◌∷◌, length, take, drop, replicate, ◌==◌, nat_le, nat_lt, slice_index, slice_set, is_some}
 use Rattle.laws.specs.Numbers.{field}
 use Rattle.answer.specs.Numbers.{told}
 use Rattle.cells.specs.Rows.{has_row}
@@ -63,7 +63,7 @@ unfoldable pub key_field : Reader → List ℕ → Step
 key_field r body =
     cond (not (length body == 17)) (bad r fault.WrongLength)
     (cond (nat_le 2 r.nwk.keys.used) (bad r fault.ThirdKey)
-    (cond (key_found r.nwk.keys (slice_index body 0)).found (bad r fault.RepeatedKey)
+    (cond is_some (key_found r.nwk.keys (slice_index body 0)) (bad r fault.RepeatedKey)
     (quiet (with_nwk r (with_keys r.nwk (with_key r.nwk.keys (key_row (slice_index body 0) (drop 1 body))))))))
 
 -- ---- 0x02: a counter row (number, sender, counter). Wrong length, surplus or repeated row: bad

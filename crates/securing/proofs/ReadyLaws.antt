@@ -1,6 +1,6 @@
 -- Securing in its two halves: what a securing that is done has checked, and that the checks and what follows them make up `secure_nwk`.
 -- Assumes nothing.
-use Rattle.std.specs.Prelude.{Ok}
+use Rattle.std.specs.Prelude.{Ok, is_some}
 use mathlib.Core.Path.{◌≡◌, refl, sym, ap, ◌∙◌}
 use mathlib.Core.Bool.{Bool, true, false, cond, not, ◌||◌}
 use mathlib.Core.List.{List, ◌++◌}
@@ -32,7 +32,7 @@ pub record Checked (s : Nwk) (o : Outgoing) (plain out : List ℕ) : Type 0 wher
   pub small : length plain ≤ 1006
   pub whole : nwk_length plain ≤ length plain
   pub bit-set : bit 9 (nwk_control plain) ≡ true
-  pub found : (key_found s.keys s.active).found ≡ true
+  pub found : is_some (key_found s.keys s.active) ≡ true
   pub usable : may_use o ≡ true
   pub fits : length plain + nwk_added ≤ length out
   pub leaves : secure_nwk s o plain out ≡ nwk_done s o plain out (nwk_length plain)
@@ -57,7 +57,7 @@ module _ (s : Nwk) (o : Outgoing) (plain out : List ℕ) (start len : ℕ) where
   header-checked false t small so e = let z : ◌≡◌ {A = ℕ} 0 1 = cc in absurd (omega arith)
   header-checked true t small so e =
       let kind = passed (leb 2 (nwk_kind (nwk_control plain)) || not (bit 9 (nwk_control plain))) Unsupported _ e in
-      let key = passed (not (key_found s.keys s.active).found) NoNetworkKey _ kind.1 in
+      let key = passed (not (is_some (key_found s.keys s.active))) NoNetworkKey _ kind.1 in
       let may = passed (not (may_use o)) CounterExhausted _ key.1 in
       let fits = passed (ltb (length out) (length plain + nwk_added)) NoRoom _ may.1 in
       record {
@@ -108,7 +108,7 @@ module _ (s : Nwk) (o : Outgoing) (plain out : List ℕ) where
       at : (w a : Bool) → (cond a (not_ready Unsupported) (ready_framed s o.next (length plain) (length out) (read w))).go ≡ true
           → cond a (not_ready Unsupported) (ready_framed s o.next (length plain) (length out) (read w)) ≡ sent
       at true a h =
-          unchecked a (leb 2 (nwk_kind (nwk_control plain)) || not (bit 9 (nwk_control plain))) (not (key_found s.keys s.active).found) (not (may_use o)) (ltb (length out) (length plain + nwk_added)) h
+          unchecked a (leb 2 (nwk_kind (nwk_control plain)) || not (bit 9 (nwk_control plain))) (not (is_some (key_found s.keys s.active))) (not (may_use o)) (ltb (length out) (length plain + nwk_added)) h
       at false true h = never_true h
       at false false h = never_true h
 

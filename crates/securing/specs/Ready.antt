@@ -1,5 +1,5 @@
 -- What securing asks before a counter is taken, as the code has it. That `secure_nwk` is this, and then the frame, is shown in proofs/.
-use Rattle.std.specs.Prelude.{Err, Ok}
+use Rattle.std.specs.Prelude.{Err, Ok, is_some}
 use Rattle.std.specs.Prelude.{true, false, cond, not, ◌||◌, List, ℕ, ◌+◌, eqb, leb, ltb, length}
 use Rattle.answer.specs.declared.Accepted.TheVariants.{Done}
 use Rattle.answer.specs.declared.Refusal.{Refusal}
@@ -22,7 +22,7 @@ abbrev pub ready_framed : Nwk → ℕ → ℕ → ℕ → NwkRead → Ready
 ready_framed s next size room nwk.Cut = not_ready Cut
 ready_framed s next size room (nwk.Whole h) =
     cond (leb 2 h.kind || not h.secured) (not_ready Unsupported)
-    (cond (not (key_found s.keys s.active).found) (not_ready NoNetworkKey)
+    (cond (not (is_some (key_found s.keys s.active))) (not_ready NoNetworkKey)
     (cond (not (may_use (record { next = next }))) (not_ready CounterExhausted)
     (cond (ltb room (size + nwk_added)) (not_ready NoRoom)
     (record { go = true; answer = Ok (Done 0 (size + nwk_added)); header = h.len }))))

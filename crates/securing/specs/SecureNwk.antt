@@ -1,5 +1,5 @@
 -- Securing NWK (document 01, 'Order of checks'), from a plain frame to an output buffer.
-use Rattle.std.specs.Prelude.{Err, Ok}
+use Rattle.std.specs.Prelude.{Err, Ok, is_some}
 use Rattle.std.specs.Prelude.{cond, not, ◌||◌, List, ◌++◌, ℕ, ◌+◌, eqb, leb, ltb, length, take, drop}
 use Rattle.answer.specs.Numbers.{Answer}
 use Rattle.answer.specs.declared.Accepted.TheVariants.{Done}
@@ -12,7 +12,7 @@ use Rattle.frame_header.specs.declared.network.NwkRead.{NwkRead}
 use Rattle.frame_header.specs.declared.network.NwkRead.TheVariants as nwk
 use Rattle.frame_header.specs.Nwk.{nwk_of}
 use Rattle.nib.specs.declared.outgoing.Outgoing.{Outgoing}
-use Rattle.nib.specs.Keys.{key_found}
+use Rattle.nib.specs.Keys.{key_found, key_under}
 use Rattle.nib.specs.Sending.{may_use}
 use Rattle.nib.specs.declared.state.Nwk.{Nwk}
 use Rattle.protection.specs.Protection.{level, secured_octets}
@@ -38,7 +38,7 @@ nwk_headers s counter plain header = take header plain ++ auxiliary_octets (sent
 -- the finished frame
 unfoldable pub nwk_on_air : Nwk → ℕ → List ℕ → ℕ → List ℕ
 nwk_on_air s counter plain header =
-    secured_octets (key_found s.keys s.active).row.key s.own counter header (nwk_headers s counter plain header) (drop header plain)
+    secured_octets (key_under s.keys s.active) s.own counter header (nwk_headers s counter plain header) (drop header plain)
 
 -- done: output bytes past the finished frame stay unchanged, and the outgoing counter rises by 1
 abbrev pub nwk_done : Nwk → Outgoing → List ℕ → List ℕ → ℕ → Secured
@@ -53,7 +53,7 @@ abbrev pub nwk_framed : Nwk → Outgoing → List ℕ → List ℕ → NwkRead �
 nwk_framed s o plain out nwk.Cut = not_secured Cut out o
 nwk_framed s o plain out (nwk.Whole h) =
     cond (leb 2 h.kind || not h.secured) (not_secured Unsupported out o)
-    (cond (not (key_found s.keys s.active).found) (not_secured NoNetworkKey out o)
+    (cond (not (is_some (key_found s.keys s.active))) (not_secured NoNetworkKey out o)
     (cond (not (may_use o)) (not_secured CounterExhausted out o)
     (cond (ltb (length out) (length plain + nwk_added)) (not_secured NoRoom out o)
     (nwk_done s o plain out h.len))))
