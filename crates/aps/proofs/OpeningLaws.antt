@@ -25,7 +25,7 @@ use Rattle.claims.specs.declared.Claim.{Claim}
 use Rattle.protection.specs.Keys.{Choice, key_for}
 use Rattle.protection.specs.Heard.{Heard, refused, equals, below}
 use Rattle.protection.specs.Protection.{payload_size, vouches, opened_octets}
-use Rattle.claims.specs.declared.Who.TheVariants.{Told, Claims}
+use Rattle.claims.specs.declared.Who.TheVariants as who
 use Rattle.claims.specs.Claims.{aps_who}
 use Rattle.aps.specs.declared.state.Aps.{Aps}
 use Rattle.aps.specs.OpenAps.{aps_unfit, unchanged, aps_placed, open_aps, Opened, link_key, incoming, aps_judged, aps_committed}
@@ -179,7 +179,7 @@ module _ (s : Aps) (pairs : Pairs) (b : List ℕ) where
     unfolding open_aps aps_placed
     opens-told a w = rw (fits, w)
 
-    pub opens-claim : (c : Claim) → aps_who b ≡ Claims c → committed pairs c b ≡ open_aps s pairs b
+    pub opens-claim : (c : Claim) → aps_who b ≡ Ok (who.Claims c) → committed pairs c b ≡ open_aps s pairs b
     unfolding open_aps aps_placed committed
     opens-claim c w = rw (fits, w)
 

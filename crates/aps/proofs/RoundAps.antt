@@ -30,7 +30,7 @@ use Rattle.frame_header.specs.declared.application.ApsRead.TheVariants as aps
 use Rattle.frame_header.specs.Aps.{is_command, aps_length, aps_of}
 use Rattle.frame_header.specs.ApsLaws.{aps-whole}
 use Rattle.claims.specs.declared.Claim.{Claim}
-use Rattle.claims.specs.declared.Who.TheVariants.{Claims}
+use Rattle.claims.specs.declared.Who.TheVariants as who
 use Rattle.claims.specs.Claims.{is_network, spent, aps_who}
 use Rattle.protection.specs.Keys.{key_for}
 use Rattle.protection.specs.Heard.{refused, equals, below}
@@ -162,7 +162,7 @@ module _ (s : Aps) (pairs : Pairs) (d : ℕ) (extended : Bool) (plain out : List
     abbrev claim : Claim
     claim = record { key = key_used identifier 0; sender = s.own; counter = row.outgoing; control = record { byte = sent identifier }; at = header; payload = header + 13 }
 
-    frame-claims : aps_who frame ≡ Claims claim
+    frame-claims : aps_who frame ≡ Ok (who.Claims claim)
     unfolding aps_who
     frame-claims =
         let n = small in

@@ -1,5 +1,5 @@
 -- Opening APS (document 01, 'Order of checks'): a judgement that only reads, and then one commit.
-use Rattle.std.specs.Prelude.{Ok}
+use Rattle.std.specs.Prelude.{Ok, Err, Result}
 use Rattle.std.specs.Prelude.{Bool, cond, not, ◌||◌, List, ℕ, ◌+◌, eqb, ltb, length}
 use Rattle.std.specs.Prelude.{Option, None, Some}
 use Rattle.answer.specs.Numbers.{Answer}
@@ -11,9 +11,10 @@ use Rattle.aib.specs.declared.pairs.Pairs.{Pairs}
 use Rattle.aib.specs.Pairs.{PairCell, pair_rows, trust_center_link_key}
 use Rattle.aib.specs.Counters.{in_use, holding, heard}
 use Rattle.control.specs.Control.{identifier_of}
+use Rattle.answer.specs.declared.Refusal.{Refusal}
 use Rattle.claims.specs.declared.Claim.{Claim}
 use Rattle.claims.specs.declared.Who.{Who}
-use Rattle.claims.specs.declared.Who.TheVariants.{Told, Claims}
+use Rattle.claims.specs.declared.Who.TheVariants as who
 use Rattle.aps.specs.declared.state.Aps.{Aps}
 use Rattle.claims.specs.Claims.{aps_who}
 use Rattle.protection.specs.Keys.{Choice, key_for}
@@ -58,9 +59,10 @@ unchanged pairs h = record { answer = h.answer; frame = h.frame; pairs = pairs }
 abbrev pub aps_committed : Pairs → Settled Heard PairRow → Opened
 aps_committed pairs t = record { answer = t.out.answer; frame = t.out.frame; pairs = holding t.rows pairs }
 
-unfoldable pub aps_placed : Pairs → List ℕ → Who → Opened
-aps_placed pairs b (Told a) = unchanged pairs (record { answer = a; frame = b })
-aps_placed pairs b (Claims c) =
+unfoldable pub aps_placed : Pairs → List ℕ → Result Who Refusal → Opened
+aps_placed pairs b (Err why) = unchanged pairs (record { answer = Err why; frame = b })
+aps_placed pairs b (Ok (who.Plain start len)) = unchanged pairs (record { answer = Ok (Plain start len); frame = b })
+aps_placed pairs b (Ok (who.Claims c)) =
     aps_committed pairs (settle pair_rows 16 (in_use pairs) c.sender (aps_judged c (find pair_rows (in_use pairs) c.sender) b))
 
 -- State: level not 5, or a count in use above its capacity

@@ -1,6 +1,6 @@
 -- NWK frames as they go on the air, without payload: what they claim, and that their tags are right, computed by AES and CCM as they
 -- are defined. Assumes nothing.
-use Rattle.std.specs.Prelude.{◌≡◌, refl, true, [], ◌∷◌, ℕ}
+use Rattle.std.specs.Prelude.{◌≡◌, refl, true, [], ◌∷◌, ℕ, Ok}
 use Rattle.std.specs.Prelude.{None, Some}
 use Rattle.laws.specs.Octets.{same, ◌⊕◌}
 use Rattle.laws.specs.Blocks.{blocks, cut}
@@ -18,7 +18,7 @@ use Rattle.answer.specs.declared.Refusal.TheVariants.{CounterRepeated}
 use Rattle.cells.specs.Rows.{leave}
 use Rattle.nib.specs.declared.keys.NetworkKeys.{NetworkKeys}
 use Rattle.nib.specs.Counters.{counting}
-use Rattle.claims.specs.declared.Who.TheVariants.{Claims}
+use Rattle.claims.specs.declared.Who.TheVariants as who
 use Rattle.claims.specs.Claims.{nwk_who}
 use Rattle.protection.specs.Heard.{refused}
 use Rattle.protection.specs.Protection.{vouches}
@@ -41,7 +41,7 @@ pub nine-vouches : vouches key sender 5 8 22 under_nine ≡ true
 unfolding vouches vouched_frame vouched vouched_from same tag_from ◌⊕◌ chain blocks cut counted head head_blocks stream cipher key_expansion sbox round_constant mul nonce_of low
 nine-vouches = refl
 
-pub claims-under : (n a b c d : ℕ) (keys : NetworkKeys) → Has keys n → nwk_who keys (frame_under n (a ∷ b ∷ c ∷ d ∷ [])) ≡ Claims (claim_under n)
+pub claims-under : (n a b c d : ℕ) (keys : NetworkKeys) → Has keys n → nwk_who keys (frame_under n (a ∷ b ∷ c ∷ d ∷ [])) ≡ Ok (who.Claims (claim_under n))
 unfolding nwk_who nwk_of nwk_length nwk_fixed auxiliary_at has_sender has_number identifier_of field value bit
 claims-under n a b c d keys h = rw h
 
@@ -50,10 +50,10 @@ pub opens-under : (n a b c d : ℕ) (keys : NetworkKeys) → Has keys n → (let
 unfolding nwk_judged
 opens-under n a b c d keys h v = rw (h, v)
 
-pub two-claims : (keys : NetworkKeys) → Has keys 2 → nwk_who keys under_two ≡ Claims (claim_under 2)
+pub two-claims : (keys : NetworkKeys) → Has keys 2 → nwk_who keys under_two ≡ Ok (who.Claims (claim_under 2))
 two-claims = claims-under 2 _ _ _ _
 
-pub three-claims : (keys : NetworkKeys) → Has keys 3 → nwk_who keys under_three ≡ Claims (claim_under 3)
+pub three-claims : (keys : NetworkKeys) → Has keys 3 → nwk_who keys under_three ≡ Ok (who.Claims (claim_under 3))
 three-claims = claims-under 3 _ _ _ _
 
 pub two-opens : (keys : NetworkKeys) → Has keys 2 → nwk_judged keys (claim_under 2) None under_two ≡ opens_fresh under_two

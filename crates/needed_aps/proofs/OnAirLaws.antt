@@ -1,6 +1,6 @@
 -- Two APS frames as they go on the air, commands without payload under the trust centre link key: what they claim, and that their tags are right,
 -- computed by AES and CCM as they are defined. Assumes nothing.
-use Rattle.std.specs.Prelude.{◌≡◌, refl, true}
+use Rattle.std.specs.Prelude.{◌≡◌, refl, true, Ok}
 use Rattle.std.specs.Prelude.{None, Some}
 use Rattle.laws.specs.Octets.{same, ◌⊕◌}
 use Rattle.laws.specs.Blocks.{blocks, cut}
@@ -17,7 +17,7 @@ use Rattle.frame_header.specs.Aps.{aps_of, aps_taken, aps_length}
 use Rattle.answer.specs.declared.Refusal.TheVariants.{CounterRepeated}
 use Rattle.cells.specs.Rows.{leave}
 use Rattle.aib.specs.Pairs.{new_pair, trust_center_link_key}
-use Rattle.claims.specs.declared.Who.TheVariants.{Claims}
+use Rattle.claims.specs.declared.Who.TheVariants as who
 use Rattle.claims.specs.Claims.{aps_who}
 use Rattle.protection.specs.Heard.{refused}
 use Rattle.protection.specs.Keys.{key_for}
@@ -33,11 +33,11 @@ pub other-vouches : vouches trust_center_link_key other 5 2 15 from_other ≡ tr
 unfolding vouches vouched_frame vouched vouched_from same tag_from ◌⊕◌ chain blocks cut counted head head_blocks stream cipher key_expansion sbox round_constant mul nonce_of low
 other-vouches = refl
 
-pub one-claims : aps_who from_one ≡ Claims (claim_from one)
+pub one-claims : aps_who from_one ≡ Ok (who.Claims (claim_from one))
 unfolding aps_who aps_of aps_taken aps_length auxiliary_at has_sender has_number identifier_of field value bit
 one-claims = refl
 
-pub other-claims : aps_who from_other ≡ Claims (claim_from other)
+pub other-claims : aps_who from_other ≡ Ok (who.Claims (claim_from other))
 unfolding aps_who aps_of aps_taken aps_length auxiliary_at has_sender has_number identifier_of field value bit
 other-claims = refl
 

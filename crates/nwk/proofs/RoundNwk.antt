@@ -29,7 +29,7 @@ use Rattle.nib.specs.declared.outgoing.Outgoing.{Outgoing}
 use Rattle.nib.specs.Counters.{Cell, counting, counter_in, counter_rows, capacity, pair}
 use Rattle.nib.specs.Keys.{key_found, key_under}
 use Rattle.claims.specs.declared.Claim.{Claim}
-use Rattle.claims.specs.declared.Who.TheVariants.{Claims}
+use Rattle.claims.specs.declared.Who.TheVariants as who
 use Rattle.claims.specs.Claims.{spent, nwk_who}
 use Rattle.protection.specs.Heard.{refused, equals, below}
 use Rattle.protection.specs.Protection.{tag_size, payload_size, vouches, opened_octets}
@@ -119,7 +119,7 @@ module _ (s : Nwk) (o : Outgoing) (plain out : List ℕ) (start len : ℕ) (done
   claim = record { key = used.Network s.active; sender = s.own; counter = o.next; control = record { byte = sent Network }; at = header; payload = header + 14 }
 
   module _ (g : Nwk) (rows : List CounterRow) (in_use : ℕ) (hears : Hears s o g rows in_use) where
-    frame-claims : nwk_who g.keys frame ≡ Claims claim
+    frame-claims : nwk_who g.keys frame ≡ Ok (who.Claims claim)
     unfolding nwk_who
     frame-claims =
         let n : length plain ≤ 1006 = checked.small in

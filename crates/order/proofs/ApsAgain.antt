@@ -1,5 +1,5 @@
 -- No APS frame opens twice: the proof. Assumes nothing.
-use Rattle.std.specs.Prelude.{◌≡◌, refl, Bool, true, false, cond, not, List, ℕ, ◌+◌, ◌≤◌, ltb, length, drop}
+use Rattle.std.specs.Prelude.{◌≡◌, refl, Bool, true, false, cond, not, List, ℕ, ◌+◌, ◌≤◌, ltb, length, drop, Err, Ok, Result}
 use Rattle.std.proofs.Common.{sym, ap, ◌∙◌, le_trans, arith, length-take, eq-eqb, ne_eqb, lt-ltb}
 use Rattle.std.specs.Prelude.{Option, None, Some}
 use Rattle.std.proofs.lemmas.Option.{none-some, same_Some}
@@ -12,9 +12,10 @@ use Rattle.cells.specs.Machine.{final}
 use Rattle.aib.specs.declared.counters.Advanced.{Advanced}
 use Rattle.aib.specs.Counters.{in_use, holding, raised, heard}
 use Rattle.aib.specs.Pairs.{PairCell, pair_rows, may_use}
+use Rattle.answer.specs.declared.Refusal.{Refusal}
 use Rattle.claims.specs.declared.Claim.{Claim}
 use Rattle.claims.specs.declared.Who.{Who}
-use Rattle.claims.specs.declared.Who.TheVariants.{Told, Claims}
+use Rattle.claims.specs.declared.Who.TheVariants as who
 use Rattle.claims.specs.Claims.{aps_who, sender_of}
 use Rattle.protection.specs.Heard.{Heard, refused, equals, below}
 use Rattle.protection.specs.Keys.{key_for}
@@ -49,10 +50,11 @@ rising c held b =
     (either S (not (vouches _ _ _ _ _ b)) (stops _ refl)
     (rises _ _ _ (heard-counter held c.counter) (λ p q. not-above (incoming held) c.counter t p.incoming (ap incoming q)) refl)))))
 
-reacts : (b : List ℕ) (w : Who) (k : ℕ) → sender_of w ≡ Some k → (held : Option PairCell) → Rising (λ p. p.incoming) opens (counter_of w) held (reaction b w held)
+reacts : (b : List ℕ) (w : Result Who Refusal) (k : ℕ) → sender_of w ≡ Some k → (held : Option PairCell) → Rising (λ p. p.incoming) opens (counter_of w) held (reaction b w held)
 unfolding reaction
-reacts b (Told a) k e held = absurd (none-some k e)
-reacts b (Claims c) k e held = rising c held b
+reacts b (Err why) k e held = absurd (none-some k e)
+reacts b (Ok (who.Plain start len)) k e held = absurd (none-some k e)
+reacts b (Ok (who.Claims c)) k e held = rising c held b
 
 opens-good : (g : Gateway) (b : List ℕ) → opens (answer g b) ≡ true → Good g
 unfolding open_aps
@@ -64,7 +66,7 @@ opens-good g b = at (aps_unfit g.aps g.pairs) refl
     at true e f = clash false f refl
     at false e f = taken-good g e
 
-stale : (g : Gateway) → Good g → (b : List ℕ) (c : Claim) → aps_who b ≡ Claims c → (p : PairCell) → held_pair g c.sender ≡ Some p → c.counter ≤ p.incoming
+stale : (g : Gateway) → Good g → (b : List ℕ) (c : Claim) → aps_who b ≡ Ok (who.Claims c) → (p : PairCell) → held_pair g c.sender ≡ Some p → c.counter ≤ p.incoming
     → Stale (incoming (held_pair g c.sender)) c.counter CounterRepeated CounterBehind b (answer g b)
 unfolding aps_placed aps_judged settle
 stale g good b c claims p holds low = record {
@@ -117,8 +119,8 @@ keeps sender h g (advancing device) p = at (sends.advancing g.pairs device)
 
 -- The same for APS, by sender, with securings to any devices and advances between.
 pub not-again : (g : Gateway) (frame : List ℕ) (between : List Step) (again : List ℕ) (c c' : Claim)
-    → aps_who frame ≡ Claims c
-    → aps_who again ≡ Claims c'
+    → aps_who frame ≡ Ok (who.Claims c)
+    → aps_who again ≡ Ok (who.Claims c')
     → c'.sender ≡ c.sender
     → c'.counter ≤ c.counter
     → opens (answer g frame) ≡ true

@@ -1,5 +1,5 @@
 -- Opening and securing APS change nothing unless the answer is done. Assumes nothing.
-use Rattle.std.specs.Prelude.{◌≡◌, Bool, cond, not, List, ℕ, ◌+◌, ◌≤◌, eqb, ltb, length}
+use Rattle.std.specs.Prelude.{◌≡◌, Bool, cond, not, List, ℕ, ◌+◌, ◌≤◌, eqb, ltb, length, Err, Ok, Result}
 use Rattle.std.proofs.Math.Path.{refl, ap}
 use Rattle.std.proofs.Common.{◌∙◌, arith, ltb-false}
 use Rattle.std.proofs.Math.Bool.{true, false}
@@ -11,9 +11,10 @@ use Rattle.cells.specs.Rows.{find}
 use Rattle.aib.specs.declared.pairs.Pairs.{Pairs}
 use Rattle.aib.specs.Counters.{in_use}
 use Rattle.aib.specs.Pairs.{PairCell, pair_rows}
+use Rattle.answer.specs.declared.Refusal.{Refusal}
 use Rattle.claims.specs.declared.Claim.{Claim}
 use Rattle.claims.specs.declared.Who.{Who}
-use Rattle.claims.specs.declared.Who.TheVariants.{Told, Claims}
+use Rattle.claims.specs.declared.Who.TheVariants as who
 use Rattle.claims.specs.Claims.{aps_who}
 use Rattle.protection.specs.Heard.{refused, equals, below}
 use Rattle.protection.specs.Keys.{key_for}
@@ -39,13 +40,14 @@ module _ (s : Aps) (pairs : Pairs) (sixteen : length pairs.rows ≡ 16) (b : Lis
   abbrev ApsKept : Opened → Type 0
   ApsKept o = NotDone o.answer → o ≡ unchanged pairs (record { answer = o.answer; frame = b })
 
-  aps-placed : pairs.used ≤ 16 → (w : Who) → ApsKept (aps_placed pairs b w)
+  aps-placed : pairs.used ≤ 16 → (w : Result Who Refusal) → ApsKept (aps_placed pairs b w)
   unfolding aps_placed
-  aps-placed fits (Told a) n = refl
-  aps-placed fits (Claims c) n =
+  aps-placed fits (Err why) n = refl
+  aps-placed fits (Ok (who.Plain start len)) n = refl
+  aps-placed fits (Ok (who.Claims c)) n =
       ap (aps_committed pairs) (settle-kept pair_rows 16 (in_use pairs) c.sender b (aps-tame c (find pair_rows (in_use pairs) c.sender) b) n)
       ∙ (λ i. record {
-        answer = (aps_placed pairs b (Claims c)).answer;
+        answer = (aps_placed pairs b (Ok (who.Claims c))).answer;
         frame = b;
         pairs = record { rows = over-same pairs.rows pairs.used (omega arith) i; used = length-take-le pairs.used pairs.rows (omega arith) i };
       })

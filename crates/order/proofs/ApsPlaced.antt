@@ -1,5 +1,5 @@
 -- An opening of an APS frame: what it does to the row of the sender that the frame names. Assumes nothing.
-use Rattle.std.specs.Prelude.{◌≡◌, false, not, List, ℕ, ◌≤◌, length, drop, eqb}
+use Rattle.std.specs.Prelude.{◌≡◌, false, not, List, ℕ, ◌≤◌, length, drop, eqb, Err, Ok, Result}
 use Rattle.std.proofs.Math.Path.{refl, sym}
 use Rattle.std.proofs.Common.{arith}
 use Rattle.std.specs.Prelude.{None, Some}
@@ -12,8 +12,9 @@ use Rattle.cells.specs.Rows.{find, settle, reply_of}
 use Rattle.cells.proofs.RowLaws.{settle-fits}
 use Rattle.aib.specs.Counters.{in_use}
 use Rattle.aib.specs.Pairs.{pair_rows}
+use Rattle.answer.specs.declared.Refusal.{Refusal}
 use Rattle.claims.specs.declared.Who.{Who}
-use Rattle.claims.specs.declared.Who.TheVariants.{Told, Claims}
+use Rattle.claims.specs.declared.Who.TheVariants as who
 use Rattle.claims.specs.Claims.{aps_who, sender_of}
 use Rattle.aps.specs.OpenAps.{aps_judged, aps_placed, aps_unfit, open_aps}
 use Rattle.order.specs.Aps.{Gateway, after}
@@ -33,25 +34,28 @@ module _ (g : Gateway) (b : List ℕ) (h : Good g) where
   opening = rw (eq-eqb g.aps.level 5 h.level, le-ltb 16 g.pairs.used h.fits)
 
   -- a frame that names k reacts to k's row, and the rows in use become what `settle` says
-  pub named-placed : (k : ℕ) (w : Who) → sender_of w ≡ Some k
+  pub named-placed : (k : ℕ) (w : Result Who Refusal) → sender_of w ≡ Some k
       → settled (aps_placed g.pairs b w) ≡ settle pair_rows 16 (in_use g.pairs) k (reaction b w (find pair_rows (in_use g.pairs) k))
   unfolding aps_placed reaction
-  named-placed k (Told a) e = absurd (none-some k e)
-  named-placed k (Claims c) e =
+  named-placed k (Err why) e = absurd (none-some k e)
+  named-placed k (Ok (who.Plain start len)) e = absurd (none-some k e)
+  named-placed k (Ok (who.Claims c)) e =
       let t = settle pair_rows 16 (in_use g.pairs) c.sender (aps_judged c (find pair_rows (in_use g.pairs) c.sender) b) in
       rw (← same_Some c.sender k e) (λ i. record { out = t.out; rows = take-append_seam t.rows (drop (length t.rows) g.pairs.rows) i })
 
   -- a frame that names none changes nothing
-  pub nameless-placed : (w : Who) → sender_of w ≡ None → settled (aps_placed g.pairs b w) ≡ record { out = reply_of (reaction b w None); rows = in_use g.pairs }
+  pub nameless-placed : (w : Result Who Refusal) → sender_of w ≡ None → settled (aps_placed g.pairs b w) ≡ record { out = reply_of (reaction b w None); rows = in_use g.pairs }
   unfolding aps_placed reaction reply_of
-  nameless-placed (Told a) e = refl
-  nameless-placed (Claims c) e = absurd (none-some c.sender (sym e))
+  nameless-placed (Err why) e = refl
+  nameless-placed (Ok (who.Plain start len)) e = refl
+  nameless-placed (Ok (who.Claims c)) e = absurd (none-some c.sender (sym e))
 
   -- not too many rows are in use after an opening
-  stays-placed : (w : Who) → (aps_placed g.pairs b w).pairs.used ≤ 16
+  stays-placed : (w : Result Who Refusal) → (aps_placed g.pairs b w).pairs.used ≤ 16
   unfolding aps_placed
-  stays-placed (Told a) = h.fits
-  stays-placed (Claims c) =
+  stays-placed (Err why) = h.fits
+  stays-placed (Ok (who.Plain start len)) = h.fits
+  stays-placed (Ok (who.Claims c)) =
       settle-fits pair_rows 16 (in_use g.pairs) c.sender (aps_judged c (find pair_rows (in_use g.pairs) c.sender) b) (simp length-take (omega (arith, h.fits)))
 
   pub stays-good : Good (after g b)

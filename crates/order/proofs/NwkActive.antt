@@ -1,7 +1,7 @@
 -- The active number at the end of a list. A frame opens only under the number of one of the keys. So with at most two keys, the active
 -- number a one of theirs, it ends as the next number if a frame opened under that, and else as it was: once it has moved, a, the next
 -- and the one after that would be three numbers. Which frames open does not depend on the order. Assumes nothing.
-use Rattle.std.specs.Prelude.{Err, Ok, is_some}
+use Rattle.std.specs.Prelude.{Err, Ok, is_some, Result}
 use Rattle.std.specs.Prelude.{◌≡◌, ◌⊎◌, Bool, not, ◌||◌, length, take, eqb, ltb}
 use Rattle.std.proofs.Math.Path.{refl}
 use Rattle.std.proofs.Common.{sym, ap, ◌∙◌, inl, inr, arith, length-take, eqb-true}
@@ -36,8 +36,9 @@ use Rattle.nib.specs.Active.{next, turn}
 use Rattle.nib.specs.Keys.{key_rows, answered, key_found}
 use Rattle.nib.specs.Counters.{pair}
 use Rattle.nib.specs.Pairs.{Pair}
+use Rattle.answer.specs.declared.Refusal.{Refusal}
 use Rattle.claims.specs.declared.Who.{Who}
-use Rattle.claims.specs.declared.Who.TheVariants.{Told, Claims}
+use Rattle.claims.specs.declared.Who.TheVariants as who
 use Rattle.claims.specs.Claims.{spent, refuse, is_network, number_of, claimed, nwk_named, nwk_auxiliary, nwk_header, nwk_who, pair_of}
 use Rattle.protection.specs.Heard.{Heard}
 use Rattle.judging.specs.OpenNwk.{Opened, nwk_placed, active_after}
@@ -78,7 +79,7 @@ key-number keys n e = at (find key_rows (take keys.used keys.rows) n) refl e
     at (Some key) q f = found_number (take keys.used keys.rows) n key q
 
 module _ (keys : NetworkKeys) (b : List ℕ) (k : Pair) where
-  abbrev Named : Who → Type 0
+  abbrev Named : Result Who Refusal → Type 0
   Named w = pair_of w ≡ Some k → Mem k.number (numbers keys)
 
   none_named : None ≡ Some k → Mem k.number (numbers keys)
@@ -129,12 +130,13 @@ module _ (keys : NetworkKeys) (lent : ℕ) (two : keys.used ≤ 2) where
   unfolding nwk_placed
   active-step g b h = rw (opening keys lent two g b h) (at (nwk_who keys b))
     where
-      placed : Who → Opened
+      placed : Result Who Refusal → Opened
       placed w = nwk_placed g.nwk g.rows g.used b w
 
-      at : (w : Who) → (placed w).active ≡ cond (opens_under (next g.nwk.active) (pair_of w) (placed w).answer) (next g.nwk.active) g.nwk.active
-      at (Told a) = refl
-      at (Claims c) = turned-once g.nwk.active (claimed_pair c) (placed (Claims c)).answer
+      at : (w : Result Who Refusal) → (placed w).active ≡ cond (opens_under (next g.nwk.active) (pair_of w) (placed w).answer) (next g.nwk.active) g.nwk.active
+      at (Err why) = refl
+      at (Ok (who.Plain start len)) = refl
+      at (Ok (who.Claims c)) = turned-once g.nwk.active (claimed_pair c) (placed (Ok (who.Claims c))).answer
 
   -- ---- a list of frames
 

@@ -1,5 +1,5 @@
 -- No NWK frame opens twice: the proof. Assumes nothing.
-use Rattle.std.specs.Prelude.{◌≡◌, refl, Bool, true, false, cond, not, List, ℕ, ◌+◌, ◌≤◌, ltb, length}
+use Rattle.std.specs.Prelude.{◌≡◌, refl, Bool, true, false, cond, not, List, ℕ, ◌+◌, ◌≤◌, ltb, length, Err, Ok, Result}
 use Rattle.std.proofs.Common.{ap, ◌∙◌, le_trans, arith, eq-eqb, ne_eqb, lt-ltb}
 use Rattle.std.specs.Prelude.{Option, Some}
 use Rattle.std.proofs.lemmas.Option.{none-some}
@@ -10,9 +10,10 @@ use Rattle.cells.specs.Machine.{final}
 use Rattle.nib.specs.declared.keys.NetworkKeys.{NetworkKeys}
 use Rattle.nib.specs.Counters.{Cell, counter_in}
 use Rattle.nib.specs.Pairs.{Pair}
+use Rattle.answer.specs.declared.Refusal.{Refusal}
 use Rattle.claims.specs.declared.Claim.{Claim}
 use Rattle.claims.specs.declared.Who.{Who}
-use Rattle.claims.specs.declared.Who.TheVariants.{Told, Claims}
+use Rattle.claims.specs.declared.Who.TheVariants as who
 use Rattle.claims.specs.Claims.{nwk_who, pair_of}
 use Rattle.protection.specs.Heard.{Heard, refused, equals, below}
 use Rattle.protection.specs.Protection.{tag_size, vouches}
@@ -38,10 +39,11 @@ rising keys c held b =
     (either S (not (vouches _ _ _ _ _ b)) (stops _ refl) (rises _ _ _ refl (λ d q. not-above (counter_in held) c.counter t d.counter (ap counter_in q)) refl))))
 
 module _ (keys : NetworkKeys) (b : List ℕ) where
-  reacts : (w : Who) (k : Pair) → pair_of w ≡ Some k → (held : Option Cell) → Rising (λ n. n.counter) opens (counter_of w) held (reaction keys b w held)
+  reacts : (w : Result Who Refusal) (k : Pair) → pair_of w ≡ Some k → (held : Option Cell) → Rising (λ n. n.counter) opens (counter_of w) held (reaction keys b w held)
   unfolding reaction
-  reacts (Told a) k e held = absurd (none-some k e)
-  reacts (Claims c) k e held = rising keys c held b
+  reacts (Err why) k e held = absurd (none-some k e)
+  reacts (Ok (who.Plain start len)) k e held = absurd (none-some k e)
+  reacts (Ok (who.Claims c)) k e held = rising keys c held b
 
 -- a state in which a frame opens is one that is taken
 opens-good : (g : Gateway) (b : List ℕ) → opens (answer g b) ≡ true → (Good g.nwk.keys (length g.rows) g) × (g.nwk.keys.used ≤ 2)
@@ -55,7 +57,7 @@ opens-good g b = at (nwk_unfit g.nwk g.rows g.used) refl
     at false e f = taken-good g e
 
 -- a frame that is not above what is held is refused, 33 or 34
-stale : (keys : NetworkKeys) (lent : ℕ) → keys.used ≤ 2 → (g : Gateway) → Good keys lent g → (b : List ℕ) (c : Claim) → nwk_who keys b ≡ Claims c
+stale : (keys : NetworkKeys) (lent : ℕ) → keys.used ≤ 2 → (g : Gateway) → Good keys lent g → (b : List ℕ) (c : Claim) → nwk_who keys b ≡ Ok (who.Claims c)
     → (h : ℕ) → held_counter g (claimed_pair c) ≡ Some h → c.counter ≤ h
     → Stale (held_counter g (claimed_pair c)) c.counter CounterRepeated CounterBehind b (answer g b)
 unfolding nwk_placed nwk_judged settle
@@ -84,8 +86,8 @@ keeps keys lent two k h d taking p = record { good = p.good; least = p.least }
 -- A device opens `frame`, then opens, secures and takes whatever it may, then is given `again`, which claims the same key number and sender, with a
 -- counter not above that of `frame`: that is refused, 33 if its counter is the one held by then, 34 if below.
 pub not-again : (d : Device) (frame : List ℕ) (between : List Step) (again : List ℕ) (c c' : Claim)
-    → nwk_who d.gateway.nwk.keys frame ≡ Claims c
-    → nwk_who d.gateway.nwk.keys again ≡ Claims c'
+    → nwk_who d.gateway.nwk.keys frame ≡ Ok (who.Claims c)
+    → nwk_who d.gateway.nwk.keys again ≡ Ok (who.Claims c')
     → claimed_pair c' ≡ claimed_pair c
     → c'.counter ≤ c.counter
     → opens (answer d.gateway frame) ≡ true

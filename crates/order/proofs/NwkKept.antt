@@ -1,5 +1,5 @@
 -- Opening and securing NWK change nothing unless the answer is done. Assumes nothing.
-use Rattle.std.specs.Prelude.{Err, Ok}
+use Rattle.std.specs.Prelude.{Err, Ok, Result}
 use Rattle.std.specs.Prelude.{◌≡◌, Bool, cond, not, List, ℕ, ◌+◌, ◌≤◌, eqb, ltb, length, take}
 use Rattle.std.proofs.Math.Path.{refl, ap}
 use Rattle.std.proofs.Common.{◌∙◌, arith}
@@ -17,9 +17,10 @@ use Rattle.nib.specs.declared.counters.CounterRow.{CounterRow}
 use Rattle.nib.specs.declared.keys.NetworkKeys.{NetworkKeys}
 use Rattle.nib.specs.Counters.{Cell, counter_in, counter_rows, capacity, pair}
 use Rattle.nib.specs.Pairs.{Pair}
+use Rattle.answer.specs.declared.Refusal.{Refusal}
 use Rattle.claims.specs.declared.Claim.{Claim}
 use Rattle.claims.specs.declared.Who.{Who}
-use Rattle.claims.specs.declared.Who.TheVariants.{Told, Claims}
+use Rattle.claims.specs.declared.Who.TheVariants as who
 use Rattle.claims.specs.Claims.{number_of, nwk_who}
 use Rattle.protection.specs.Heard.{Heard, refused, equals, below}
 use Rattle.protection.specs.Protection.{tag_size, vouches}
@@ -48,10 +49,11 @@ module _ (s : Nwk) (rows : List CounterRow) (used : ℕ) (b : List ℕ) where
   abbrev NwkKept : Opened → Type 0
   NwkKept o = NotDone o.answer → o ≡ unchanged s rows used (record { answer = o.answer; frame = b })
 
-  nwk-placed : used ≤ capacity (length rows) → (w : Who) → NwkKept (nwk_placed s rows used b w)
+  nwk-placed : used ≤ capacity (length rows) → (w : Result Who Refusal) → NwkKept (nwk_placed s rows used b w)
   unfolding nwk_placed
-  nwk-placed fits (Told a) n = refl
-  nwk-placed fits (Claims c) n =
+  nwk-placed fits (Err why) n = refl
+  nwk-placed fits (Ok (who.Plain start len)) n = refl
+  nwk-placed fits (Ok (who.Claims c)) n =
       ap (nwk_committed s rows k) (settle-kept counter_rows (capacity (length rows)) (take used rows) k b (nwk-tame s.keys c held b) n)
       ∙ (λ i. record {
         answer = t.out.answer;

@@ -1,21 +1,24 @@
 -- Opening APS frames is a machine in the sense of `cells`: a frame acts on the row of its own sender alone. So the law of `cells` says
 -- what order leaves as it is in a list of APS openings; a state that is not taken answers every frame 7. Assumes nothing.
-use Rattle.std.specs.Prelude.{◌≡◌, List, ℕ, ◌≤◌}
+use Rattle.std.specs.Prelude.{◌≡◌, List, ℕ, ◌≤◌, Err, Ok, Result}
 use Rattle.std.specs.Prelude.{Option}
 use Rattle.cells.specs.Rows.{Reaction, leave, Settled}
 use Rattle.aib.specs.declared.pairs.PairRow.{PairRow}
 use Rattle.aib.specs.Counters.{in_use}
 use Rattle.aib.specs.Pairs.{PairCell}
+use Rattle.answer.specs.declared.Refusal.{Refusal}
+use Rattle.answer.specs.declared.Accepted.TheVariants.{Plain}
 use Rattle.claims.specs.declared.Who.{Who}
-use Rattle.claims.specs.declared.Who.TheVariants.{Told, Claims}
+use Rattle.claims.specs.declared.Who.TheVariants as who
 use Rattle.protection.specs.Heard.{Heard}
 use Rattle.aps.specs.OpenAps.{Opened, aps_judged}
 use Rattle.order.specs.Aps.{Gateway}
 
 -- what a frame does to its sender's row, by what its headers say and what is held
-unfoldable pub reaction : List ℕ → Who → Option PairCell → Reaction Heard PairCell
-reaction b (Told a) held = leave (record { answer = a; frame = b })
-reaction b (Claims c) held = aps_judged c held b
+unfoldable pub reaction : List ℕ → Result Who Refusal → Option PairCell → Reaction Heard PairCell
+reaction b (Err why) held = leave (record { answer = Err why; frame = b })
+reaction b (Ok (who.Plain start len)) held = leave (record { answer = Ok (Plain start len); frame = b })
+reaction b (Ok (who.Claims c)) held = aps_judged c held b
 
 -- what an opening gives its frame, and the rows in use after it
 abbrev pub settled : Opened → Settled Heard PairRow

@@ -1,5 +1,5 @@
 -- What the calls of APS do to the rows: an opening leaves every outgoing counter, and a securing every incoming one. Assumes nothing.
-use Rattle.std.specs.Prelude.{◌≡◌, Bool, not, ◌&&◌, eqb, leb, ltb, drop}
+use Rattle.std.specs.Prelude.{◌≡◌, Bool, not, ◌&&◌, eqb, leb, ltb, drop, Err, Ok, Result}
 use Rattle.std.proofs.Math.Path.{refl}
 use Rattle.std.proofs.Common.{ap, eqb-true}
 use Rattle.std.proofs.Math.Bool.{true, false, cond}
@@ -15,9 +15,10 @@ use Rattle.cells.specs.Rows.{Reaction, find, put, room, settle}
 use Rattle.aib.specs.declared.pairs.PairRow.{PairRow}
 use Rattle.aib.specs.Counters.{in_use, raised, heard}
 use Rattle.aib.specs.Pairs.{PairCell, cell_in, row_of, pair_rows, verified, may_use}
+use Rattle.answer.specs.declared.Refusal.{Refusal}
 use Rattle.claims.specs.declared.Claim.{Claim}
 use Rattle.claims.specs.declared.Who.{Who}
-use Rattle.claims.specs.declared.Who.TheVariants.{Told, Claims}
+use Rattle.claims.specs.declared.Who.TheVariants as who
 use Rattle.claims.specs.Claims.{aps_who}
 use Rattle.protection.specs.Heard.{Heard, equals, below}
 use Rattle.protection.specs.Keys.{key_for}
@@ -52,9 +53,10 @@ pub opened_rows : (g : Gateway) (b : List ℕ) → Heard-rows (in_use g.pairs) (
 unfolding open_aps aps_placed
 opened_rows g b = either (λ (o : Opened). Heard-rows (in_use g.pairs) (in_use o.pairs)) (aps_unfit g.aps g.pairs) same (placed (aps_who b))
   where
-    placed : (w : Who) → Heard-rows (in_use g.pairs) (in_use (aps_placed g.pairs b w).pairs)
-    placed (Told a) = same
-    placed (Claims c) =
+    placed : (w : Result Who Refusal) → Heard-rows (in_use g.pairs) (in_use (aps_placed g.pairs b w).pairs)
+    placed (Err why) = same
+    placed (Ok (who.Plain start len)) = same
+    placed (Ok (who.Claims c)) =
         let t = settle pair_rows 16 (in_use g.pairs) c.sender (aps_judged c (find pair_rows (in_use g.pairs) c.sender) b) in
         rw (take-append_seam t.rows (drop (length t.rows) g.pairs.rows)) (judged-rows (in_use g.pairs) c b)
 

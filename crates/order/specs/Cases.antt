@@ -1,6 +1,6 @@
 -- P1 TO P10: document 01's cases that are marked P, as one list, on the definitions that the promises use. That there are frames and states as the
 -- records here ask for is shown in the crates `needed` and `needed_aps`, proofs/Inhabited.antt. Assumes nothing.
-use Rattle.std.specs.Prelude.{Ok, is_some}
+use Rattle.std.specs.Prelude.{Ok, is_some, Err, Result}
 use Rattle.std.specs.Prelude.{◌≡◌, refl, Bool, true, false, cond, List, [], ◌∷◌, ℕ, ◌≤◌, ◌<◌, length, take}
 use Rattle.std.proofs.Common.{ap, ◌∙◌, arith, eq-eqb, le-ltb}
 use Rattle.std.specs.Prelude.{Some}
@@ -27,9 +27,10 @@ use Rattle.nib.specs.Cases as nib
 use Rattle.aib.specs.declared.pairs.Pairs.{Pairs}
 use Rattle.aib.specs.Counters.{in_use}
 use Rattle.aib.specs.Pairs.{PairCell, pair_rows}
+use Rattle.answer.specs.declared.Refusal.{Refusal}
 use Rattle.claims.specs.declared.Claim.{Claim}
 use Rattle.claims.specs.declared.Who.{Who}
-use Rattle.claims.specs.declared.Who.TheVariants.{Told, Claims}
+use Rattle.claims.specs.declared.Who.TheVariants as who
 use Rattle.claims.specs.Claims.{number_of, nwk_who, aps_who}
 use Rattle.protection.specs.Heard.{refused}
 use Rattle.nib.specs.declared.state.Nwk.{Nwk}
@@ -46,14 +47,14 @@ numbered a = (told a).number
 pub record NwkHeard (s : Nwk) (rows : List CounterRow) (used : ℕ) (b : List ℕ) (held counter : ℕ) : Type 0 where
   pub claim : Claim
   pub taken : nwk_unfit s rows used ≡ false
-  pub claims : nwk_who s.keys b ≡ Claims claim
+  pub claims : nwk_who s.keys b ≡ Ok (who.Claims claim)
   pub holds : counter_in (find counter_rows (take used rows) (pair (number_of claim.key) claim.sender)) ≡ Some held
   pub counts : claim.counter ≡ counter
 
 -- An NWK frame opens, under this key number.
 pub record NwkOpens (s : Nwk) (rows : List CounterRow) (used : ℕ) (b : List ℕ) (number : ℕ) : Type 0 where
   pub claim : Claim
-  pub claims : nwk_who s.keys b ≡ Claims claim
+  pub claims : nwk_who s.keys b ≡ Ok (who.Claims claim)
   pub under : number_of claim.key ≡ number
   pub start : ℕ
   pub len : ℕ
@@ -64,7 +65,7 @@ pub record ApsHeard (s : Aps) (pairs : Pairs) (b : List ℕ) (held counter : ℕ
   pub claim : Claim
   pub known : PairCell
   pub taken : aps_unfit s pairs ≡ false
-  pub claims : aps_who b ≡ Claims claim
+  pub claims : aps_who b ≡ Ok (who.Claims claim)
   pub row : find pair_rows (in_use pairs) claim.sender ≡ Some known
   pub holds : known.incoming ≡ held
   pub counts : claim.counter ≡ counter
@@ -109,9 +110,10 @@ turns : (s : Nwk) (rows : List CounterRow) (used : ℕ) (b : List ℕ) (n : ℕ)
 unfolding open_nwk nwk_placed
 turns s rows used b n h = at (nwk_unfit s rows used) h.opens
   where
-    placed : (w : Who) → w ≡ Claims h.claim → (nwk_placed s rows used b w).answer ≡ Ok (Done h.start h.len) → (nwk_placed s rows used b w).active ≡ turn s.active n
-    placed (Told a) e f = let z : ◌≡◌ {A = ℕ} 0 1 = cc in absurd (omega arith)
-    placed (Claims c) e f =
+    placed : (w : Result Who Refusal) → w ≡ Ok (who.Claims h.claim) → (nwk_placed s rows used b w).answer ≡ Ok (Done h.start h.len) → (nwk_placed s rows used b w).active ≡ turn s.active n
+    placed (Err why) e f = let z : ◌≡◌ {A = ℕ} 0 1 = cc in absurd (omega arith)
+    placed (Ok (who.Plain start len)) e f = let z : ◌≡◌ {A = ℕ} 0 1 = cc in absurd (omega arith)
+    placed (Ok (who.Claims c)) e f =
         let same : number_of c.key ≡ n = cc in
         ap (active_after s.active (number_of c.key)) f ∙ ap (turn s.active) same
 

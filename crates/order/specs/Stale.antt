@@ -1,5 +1,5 @@
 -- When a frame has opened, and how an old one is refused. Assumes nothing.
-use Rattle.std.specs.Prelude.{Err, Ok}
+use Rattle.std.specs.Prelude.{Err, Ok, Result}
 use Rattle.std.specs.Prelude.{◌≡◌, Bool, true, false, List, ℕ, ◌≤◌, ◌<◌}
 use Rattle.std.proofs.Common.{ap, arith, ltb-false}
 use Rattle.std.specs.Prelude.{Option, None, Some}
@@ -9,7 +9,7 @@ use Rattle.answer.specs.Numbers.{Answer}
 use Rattle.answer.specs.declared.Accepted.TheVariants.{Done, Plain}
 use Rattle.answer.specs.declared.Refusal.{Refusal}
 use Rattle.claims.specs.declared.Who.{Who}
-use Rattle.claims.specs.declared.Who.TheVariants.{Told, Claims}
+use Rattle.claims.specs.declared.Who.TheVariants as who
 use Rattle.protection.specs.Heard.{Heard, refused, below}
 
 abbrev pub is_done : Answer → Bool
@@ -41,9 +41,10 @@ stale-shut {counter = counter} {h = h} s = at (dec_le s.held counter)
 -- ---- for the proofs
 
 -- the counter that a frame claims
-abbrev pub counter_of : Who → ℕ
-counter_of (Told a) = 0
-counter_of (Claims c) = c.counter
+abbrev pub counter_of : Result Who Refusal → ℕ
+counter_of (Err why) = 0
+counter_of (Ok (who.Plain start len)) = 0
+counter_of (Ok (who.Claims c)) = c.counter
 
 -- what is held is not above a counter that is not below it
 pub not-above : (held : Option ℕ) (n : ℕ) → below held n ≡ false → (h : ℕ) → held ≡ Some h → h ≤ n
