@@ -1,81 +1,69 @@
 // The calls of `aps` and `aib`.
-use crate::asked::{Case, first_in};
-use crate::classes::class_of_aps;
-use crate::gateway::{pairs_of, tell_pairs};
-use crate::parts::part;
-use crate::spaces::{blank, lay};
-use crate::telling::{NUMBERS, tell_answer, tell_bytes, tell_none, tell_number, text};
-use answer::{Answer, Outcome};
+use crate::asked::Case;
+use crate::classes::aps_class;
+use crate::tables::{pairs_of, tell_pairs};
+use crate::telling::{Line, NUMBERS};
 use aps::Aps;
+use std::io;
 
-fn aps_of(case: Case) -> Aps {
+fn aps_of(case: &Case<'_>) -> Aps {
     Aps {
-        level: case.level,
-        own: case.own,
+        level: case.head.level,
+        own: case.head.own,
     }
 }
 
-fn tell_told(show: u8, answer: Answer) {
-    let told = answer::told_of(answer);
-    tell_answer(show, class_of_aps(told.number), told.start, told.len);
-}
-
-fn tell_outcome(show: u8, outcome: Outcome) {
-    tell_answer(show, class_of_aps(answer::outcome_number(outcome)), 0, 0);
-}
-
-pub(crate) fn open(case: Case, body: &[u8], space: &mut [u8]) {
-    let frame = first_in(case, body);
-    let len = frame.len();
-    lay(frame, space);
+pub(crate) fn open(case: &Case<'_>, space: &mut [u8], line: Line<'_>) -> io::Result<()> {
+    let len = case.first.len();
     if space.len() < len {
-        text(b"bad\n");
-        return;
+        return line.text("bad\n");
     }
-    let opened = aps::open_aps(aps_of(case), pairs_of(case, body), &mut space[..len]);
-    let answer = opened.answer;
-    tell_told(case.show, answer);
-    tell_none(case.show, NUMBERS);
-    tell_pairs(case.show, opened.pairs);
-    tell_bytes(case.show, part(space, 0, len));
+    let frame = &mut space[..len];
+    frame.copy_from_slice(case.first);
+    let mut pairs = pairs_of(case);
+    let opened = aps::open_aps(aps_of(case), &mut pairs, frame);
+    line.answer(opened, aps_class)?;
+    line.none(NUMBERS)?;
+    tell_pairs(line, &pairs)?;
+    line.bytes(frame)
 }
 
-pub(crate) fn secure(case: Case, body: &[u8], space: &mut [u8]) {
-    let room = case.room;
-    blank(space);
-    if space.len() < room {
-        text(b"bad\n");
-        return;
+pub(crate) fn secure(case: &Case<'_>, space: &mut [u8], line: Line<'_>) -> io::Result<()> {
+    let head = case.head;
+    if space.len() < head.room {
+        return line.text("bad\n");
     }
+    let out = &mut space[..head.room];
+    out.fill(0xee);
+    let mut pairs = pairs_of(case);
     let secured = aps::secure_aps(
         aps_of(case),
-        pairs_of(case, body),
-        case.device,
-        case.extended,
-        first_in(case, body),
-        &mut space[..room],
+        &mut pairs,
+        head.device,
+        head.extended,
+        case.first,
+        out,
     );
-    let answer = secured.answer;
-    tell_told(case.show, answer);
-    tell_none(case.show, NUMBERS);
-    tell_pairs(case.show, secured.pairs);
-    tell_bytes(case.show, part(space, 0, room));
+    line.answer(secured, aps_class)?;
+    line.none(NUMBERS)?;
+    tell_pairs(line, &pairs)?;
+    line.bytes(out)
 }
 
-pub(crate) fn advance(case: Case, body: &[u8]) {
-    let advanced = aib::advance(pairs_of(case, body), case.device);
-    let outcome = advanced.outcome;
-    tell_outcome(case.show, outcome);
-    tell_number(case.show, advanced.counter as u64);
-    tell_pairs(case.show, advanced.pairs);
-    tell_bytes(case.show, b"");
+pub(crate) fn advance(case: &Case<'_>, line: Line<'_>) -> io::Result<()> {
+    let mut pairs = pairs_of(case);
+    let taken = aib::advance(&mut pairs, case.head.device);
+    line.outcome(taken.map(|_| ()), aps_class)?;
+    line.number(taken.unwrap_or(0) as u64)?;
+    tell_pairs(line, &pairs)?;
+    line.bytes(&[])
 }
 
-pub(crate) fn record(case: Case, body: &[u8]) {
-    let recorded = aib::record(pairs_of(case, body), case.device, case.counter);
-    let outcome = recorded.outcome;
-    tell_outcome(case.show, outcome);
-    tell_none(case.show, NUMBERS);
-    tell_pairs(case.show, recorded.pairs);
-    tell_bytes(case.show, b"");
+pub(crate) fn record(case: &Case<'_>, line: Line<'_>) -> io::Result<()> {
+    let mut pairs = pairs_of(case);
+    let recorded = aib::record(&mut pairs, case.head.device, case.head.counter);
+    line.outcome(recorded, aps_class)?;
+    line.none(NUMBERS)?;
+    tell_pairs(line, &pairs)?;
+    line.bytes(&[])
 }

@@ -1,17 +1,23 @@
-// The number that is told of an answer: the class that the Rust knows. Request W-201's numbers say more than the Rust does; they are led back to
+// The number that is told of a refusal: the class that the Rust knows. Request W-201's numbers say more than the Rust does; they are led back to
 // their classes here and nowhere else.
-pub(crate) fn class_of(number: u8) -> u8 {
-    match number {
-        30 | 31 | 32 | 33 | 34 => 3,
-        40 | 41 | 42 | 43 => 4,
-        _ => number,
+use answer::Refusal;
+
+pub(crate) fn nwk_class(refusal: Refusal) -> u8 {
+    match refusal {
+        Refusal::CounterSpent
+        | Refusal::SenderAbsent
+        | Refusal::KeyNotAllowed
+        | Refusal::CounterRepeated
+        | Refusal::CounterBehind => 3,
+        Refusal::NoNetworkKey | Refusal::NoPair | Refusal::TableFull | Refusal::DeviceAbsent => 4,
+        _ => u8::from(refusal),
     }
 }
 
 // The Rust's class for a counter that is not above the held one is 3 in NWK and 4 in APS.
-pub(crate) fn class_of_aps(number: u8) -> u8 {
-    match number {
-        33 | 34 => 4,
-        _ => class_of(number),
+pub(crate) fn aps_class(refusal: Refusal) -> u8 {
+    match refusal {
+        Refusal::CounterRepeated | Refusal::CounterBehind => 4,
+        _ => nwk_class(refusal),
     }
 }

@@ -6,106 +6,96 @@
 mod application;
 mod asked;
 mod classes;
-mod gateway;
 mod network;
 mod parts;
 mod pieces;
-mod spaces;
+mod tables;
 mod telling;
 
-use asked::{Case, case_in, fits, size};
-use parts::part;
-
-// Standard input, as the kit's `io` takes it.
-const STDIN: i32 = 0;
+use asked::{Call, Case, Head};
+use std::io::{self, Read};
+use telling::Line;
 
 // No run takes more cases.
 const MOST: usize = 1000000;
 
-fn run_frame(case: Case, body: &[u8], space: &mut [u8]) {
-    let call = case.call;
+fn run(case: &Case<'_>, space: &mut [u8], line: Line<'_>) -> io::Result<()> {
+    let Ok(call) = Call::try_from(case.head.call) else {
+        return line.text("unknown\n");
+    };
     match call {
-        1 => network::open(case, body, space),
-        2 => network::secure(case, body, space),
-        3 => application::open(case, body, space),
-        _ => application::secure(case, body, space),
+        Call::OpenNwk => network::open(case, space, line),
+        Call::SecureNwk => network::secure(case, space, line),
+        Call::OpenAps => application::open(case, space, line),
+        Call::SecureAps => application::secure(case, space, line),
+        Call::Hash => pieces::hash(case, line),
+        Call::HashFrom => pieces::hash_from(case, line),
+        Call::KeyedHash => pieces::keyed_hash(case, line),
+        Call::Take => network::take(case, line),
+        Call::Reset => network::reset(case, line),
+        Call::Record => network::record(case, line),
+        Call::Forget => network::forget(case, line),
+        Call::Advance => application::advance(case, line),
+        Call::RecordPair => application::record(case, line),
+        Call::Control => pieces::control(case, line),
+        Call::NwkHeader => pieces::nwk_header(case, line),
+        Call::ApsHeader => pieces::aps_header(case, line),
+        Call::ReadAuxiliary => pieces::read_auxiliary(case, line),
+        Call::WriteAuxiliary => pieces::write_auxiliary(case, space, line),
+        Call::Seal => pieces::seal(case, space, line),
+        Call::Unseal => pieces::unseal(case, space, line),
     }
 }
 
-fn run_table(case: Case, body: &[u8]) {
-    let call = case.call;
-    match call {
-        8 => network::take(case),
-        9 => network::reset(case),
-        10 => network::record(case, body),
-        11 => network::forget(case, body),
-        12 => application::advance(case, body),
-        _ => application::record(case, body),
+// Reads until the space is full or the input ends. Each read but the last brings a byte.
+fn read_full(rt: &HostRuntime, space: &mut [u8]) -> io::Result<usize> {
+    let mut count = 0;
+    for _ in 0..space.len() {
+        let Some(rest) = space.get_mut(count..) else {
+            break;
+        };
+        let more = rt.stdin().read(rest)?;
+        if more == 0 {
+            break;
+        }
+        count += more;
     }
+    Ok(count)
 }
 
-fn run_piece(case: Case, body: &[u8], space: &mut [u8]) {
-    let call = case.call;
-    match call {
-        5 => pieces::hash(case, body),
-        6 => pieces::hash_from(case, body),
-        7 => pieces::keyed_hash(case, body),
-        14 => pieces::control(case),
-        15 => pieces::nwk_header(case, body),
-        16 => pieces::aps_header(case, body),
-        17 => pieces::read_auxiliary(case, body),
-        18 => pieces::write_auxiliary(case, space),
-        19 => pieces::seal(case, body, space),
-        20 => pieces::unseal(case, body, space),
-        _ => telling::text(b"unknown\n"),
-    }
-}
-
-fn run(case: Case, body: &[u8], space: &mut [u8]) {
-    let call = case.call;
-    match call {
-        1..=4 => run_frame(case, body, space),
-        8..=13 => run_table(case, body),
-        _ => run_piece(case, body, space),
-    }
-}
-
-// A case that is cut, or has more in it than is taken: the line `bad`, and reading stops.
-fn bad() -> bool {
-    telling::text(b"bad\n");
-    false
-}
-
-// Reads a case and runs it. Whether there may be another.
-fn step(body: &mut [u8], space: &mut [u8]) -> bool {
-    let mut head = [0u8; 44];
-    let n = io::read_full(STDIN, &mut head);
+// Reads a case and runs it. Whether there may be another. A case that is cut, or has more in it than is taken: the line `bad`, and
+// reading stops.
+fn step(rt: &HostRuntime, body: &mut [u8], space: &mut [u8]) -> io::Result<bool> {
+    let mut bytes = [0u8; 44];
+    let n = read_full(rt, &mut bytes)?;
     if n == 0 {
-        return false;
+        return Ok(false);
     }
-    let case = case_in(&head);
-    let wanted = size(case);
-    if n < 44 || !fits(case) {
-        return bad();
+    let head = Head::read(&bytes);
+    let line = Line {
+        rt,
+        show: head.show,
+    };
+    let wanted = head.size();
+    if n < 44 || !head.fits() || body.len() < wanted {
+        line.text("bad\n")?;
+        return Ok(false);
     }
-    if body.len() < wanted {
-        return bad();
+    if read_full(rt, &mut body[..wanted])? < wanted {
+        line.text("bad\n")?;
+        return Ok(false);
     }
-    if io::read_full(STDIN, &mut body[..wanted]) < wanted {
-        return bad();
-    }
-    run(case, part(body, 0, wanted), space);
-    true
+    run(&Case::new(head, &body[..wanted]), space, line)?;
+    Ok(true)
 }
 
-fn main() {
+fn main(rt: HostRuntime) -> io::Result<()> {
     let mut body = [0u8; 131072];
     let mut space = [0u8; 4096];
-    let mut left: usize = MOST;
-    while 0 < left {
-        if !step(&mut body, &mut space) {
-            return;
+    for _ in 0..MOST {
+        if !step(&rt, &mut body, &mut space)? {
+            break;
         }
-        left -= 1;
     }
+    Ok(())
 }

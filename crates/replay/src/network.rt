@@ -1,130 +1,89 @@
 // The calls on NWK frames and counters, with rows and outgoing counter by value.
-use crate::asked::{Case, first_in};
-use crate::classes::class_of;
-use crate::gateway::{Rows, keys_of, rows_of, tell_rows};
-use crate::parts::part;
-use crate::spaces::{blank, lay};
-use crate::telling::{
-    NUMBERS, ROWS, tell_answer, tell_bytes, tell_next, tell_none, tell_number, text,
-};
-use answer::{Answer, Outcome};
-use by_value::RecordedWith;
+use crate::asked::Case;
+use crate::classes::nwk_class;
+use crate::tables::{keys_of, table_of, tell_table};
+use crate::telling::{Line, NUMBERS, ROWS};
+use answer::Refusal;
+use by_value::CounterTable;
 use nib::Nwk;
-use nwk_by_value::OpenedWith;
+use std::io;
 
-fn nwk_of(case: Case, body: &[u8]) -> Nwk {
+fn nwk_of(case: &Case<'_>) -> Nwk {
     Nwk {
-        level: case.level,
-        own: case.own,
-        active: case.active,
-        keys: keys_of(case, body),
+        level: case.head.level,
+        own: case.head.own,
+        active: case.head.active,
+        keys: keys_of(case),
     }
 }
 
-fn tell_told(show: u8, answer: Answer) {
-    let told = answer::told_of(answer);
-    tell_answer(show, class_of(told.number), told.start, told.len);
-}
-
-fn tell_outcome(show: u8, outcome: Outcome) {
-    tell_answer(show, class_of(answer::outcome_number(outcome)), 0, 0);
-}
-
-fn tell_opened(show: u8, opened: OpenedWith) {
-    let answer = opened.answer;
-    let rows = opened.rows;
-    tell_told(show, answer);
-    tell_number(show, opened.active as u64);
-    tell_rows(
-        show,
-        Rows {
-            rows,
-            used: opened.used,
-        },
-    );
-}
-
-pub(crate) fn open(case: Case, body: &[u8], space: &mut [u8]) {
-    let frame = first_in(case, body);
-    let len = frame.len();
-    lay(frame, space);
+pub(crate) fn open(case: &Case<'_>, space: &mut [u8], line: Line<'_>) -> io::Result<()> {
+    let len = case.first.len();
     if space.len() < len {
-        text(b"bad\n");
-        return;
+        return line.text("bad\n");
     }
-    let held = rows_of(case, body);
-    let rows = held.rows;
-    let opened = nwk_by_value::open_with(nwk_of(case, body), rows, held.used, &mut space[..len]);
-    tell_opened(case.show, opened);
-    tell_bytes(case.show, part(space, 0, len));
+    let frame = &mut space[..len];
+    frame.copy_from_slice(case.first);
+    let opened = nwk_by_value::open_with(nwk_of(case), table_of(case), frame);
+    line.answer(opened.answer, nwk_class)?;
+    line.number(opened.active as u64)?;
+    tell_table(line, &opened.table)?;
+    line.bytes(frame)
 }
 
-pub(crate) fn secure(case: Case, body: &[u8], space: &mut [u8]) {
-    let room = case.room;
-    blank(space);
-    if space.len() < room {
-        text(b"bad\n");
-        return;
+pub(crate) fn secure(case: &Case<'_>, space: &mut [u8], line: Line<'_>) -> io::Result<()> {
+    if space.len() < case.head.room {
+        return line.text("bad\n");
     }
-    let secured = nwk_by_value::secure_with(
-        nwk_of(case, body),
-        nib::sending(case.outgoing),
-        first_in(case, body),
-        &mut space[..room],
-    );
-    let outgoing = secured.outgoing;
-    let answer = secured.answer;
-    tell_told(case.show, answer);
-    tell_number(case.show, outgoing.next as u64);
-    tell_none(case.show, ROWS);
-    tell_bytes(case.show, part(space, 0, room));
+    let out = &mut space[..case.head.room];
+    out.fill(0xee);
+    let outgoing = nib::sending(case.head.outgoing);
+    let secured = nwk_by_value::secure_with(nwk_of(case), outgoing, case.first, out);
+    line.answer(secured.answer, nwk_class)?;
+    line.number(secured.outgoing.next as u64)?;
+    line.none(ROWS)?;
+    line.bytes(out)
 }
 
-pub(crate) fn take(case: Case) {
-    let taken = by_value::take_with(nib::sending(case.outgoing));
-    let outgoing = taken.outgoing;
-    let outcome = taken.outcome;
-    tell_outcome(case.show, outcome);
-    tell_number(case.show, taken.counter as u64);
-    tell_next(case.show, outgoing.next as u64);
-    tell_none(case.show, ROWS);
-    tell_bytes(case.show, b"");
+pub(crate) fn take(case: &Case<'_>, line: Line<'_>) -> io::Result<()> {
+    let mut outgoing = nib::sending(case.head.outgoing);
+    let taken = counter_record::take(&mut outgoing);
+    line.outcome(taken.map(|_| ()), nwk_class)?;
+    line.number(taken.unwrap_or(0) as u64)?;
+    line.next(outgoing.next as u64)?;
+    line.none(ROWS)?;
+    line.bytes(&[])
 }
 
-pub(crate) fn reset(case: Case) {
-    let outgoing = nib::reset(nib::sending(case.outgoing));
-    tell_answer(case.show, 0, 0, 0);
-    tell_number(case.show, outgoing.next as u64);
-    tell_none(case.show, ROWS);
-    tell_bytes(case.show, b"");
+pub(crate) fn reset(case: &Case<'_>, line: Line<'_>) -> io::Result<()> {
+    let outgoing = nib::reset(nib::sending(case.head.outgoing));
+    line.number_and_span(0, 0, 0)?;
+    line.number(outgoing.next as u64)?;
+    line.none(ROWS)?;
+    line.bytes(&[])
 }
 
-// What `record` and `forget` leave.
-fn tell_recorded(show: u8, recorded: RecordedWith) {
-    let outcome = recorded.outcome;
-    let rows = recorded.rows;
-    tell_outcome(show, outcome);
-    tell_none(show, NUMBERS);
-    tell_rows(
-        show,
-        Rows {
-            rows,
-            used: recorded.used,
-        },
-    );
-    tell_bytes(show, b"");
+// What `record` and `forget` leave: of a refusal the table as it was.
+fn tell_recorded(
+    recorded: Result<CounterTable, Refusal>,
+    before: CounterTable,
+    line: Line<'_>,
+) -> io::Result<()> {
+    line.outcome(recorded.map(|_| ()), nwk_class)?;
+    line.none(NUMBERS)?;
+    tell_table(line, &recorded.unwrap_or(before))?;
+    line.bytes(&[])
 }
 
-pub(crate) fn record(case: Case, body: &[u8]) {
-    let held = rows_of(case, body);
-    let rows = held.rows;
-    let recorded = by_value::record_with(rows, held.used, case.number, case.device, case.counter);
-    tell_recorded(case.show, recorded);
+pub(crate) fn record(case: &Case<'_>, line: Line<'_>) -> io::Result<()> {
+    let table = table_of(case);
+    let head = case.head;
+    let recorded = by_value::record_with(table, head.number, head.device, head.counter);
+    tell_recorded(recorded, table, line)
 }
 
-pub(crate) fn forget(case: Case, body: &[u8]) {
-    let held = rows_of(case, body);
-    let rows = held.rows;
-    let forgotten = by_value::forget_with(rows, held.used, case.number);
-    tell_recorded(case.show, forgotten);
+pub(crate) fn forget(case: &Case<'_>, line: Line<'_>) -> io::Result<()> {
+    let table = table_of(case);
+    let forgotten = by_value::forget_with(table, case.head.number);
+    tell_recorded(forgotten, table, line)
 }

@@ -1,69 +1,33 @@
-// Parts of the input. Each of these takes any place: where the input ends before, there are zeros or nothing.
-ghost use Rattle.std.specs.Prelude.{◌<◌, ◌≤◌};
+// Parts of the input. Each of these takes any string: where it ends before, there are zeros.
 
-pub(crate) fn wide(octet: u8) -> usize
-    ensures { result < 256 }
-{
-    octet as usize
-}
-
-pub(crate) fn least(a: usize, b: usize) -> usize
-    ensures { (result ≤ a) × (result ≤ b) }
-{
-    if a < b { a } else { b }
+// The N bytes at a place, zeros where the string ends before.
+pub(crate) fn bytes_at<const N: usize>(s: &[u8], at: usize) -> [u8; N] {
+    match s.get(at..) {
+        Some(rest) => rest.first_chunk::<N>().copied().unwrap_or([0; N]),
+        None => [0; N],
+    }
 }
 
 pub(crate) fn octet(s: &[u8], at: usize) -> u8 {
-    if at < s.len() { s[at] } else { 0 }
-}
-
-pub(crate) fn two(s: &[u8], at: usize) -> usize {
-    if s.len() < 2 {
-        return 0;
-    }
-    if s.len() - 2 < at {
-        return 0;
-    }
-    wide(s[at]) + 256 * wide(s[at + 1])
+    s.get(at).copied().unwrap_or(0)
 }
 
 pub(crate) fn four(s: &[u8], at: usize) -> u32 {
-    if s.len() < 4 {
-        return 0;
-    }
-    if s.len() - 4 < at {
-        return 0;
-    }
-    auxiliary_header::number_at(s, at, 4) as u32
+    u32::from_le_bytes(bytes_at(s, at))
 }
 
 pub(crate) fn eight(s: &[u8], at: usize) -> u64 {
-    if s.len() < 8 {
-        return 0;
-    }
-    if s.len() - 8 < at {
-        return 0;
-    }
-    auxiliary_header::number_at(s, at, 8)
+    u64::from_le_bytes(bytes_at(s, at))
 }
 
-pub(crate) fn part(s: &[u8], from: usize, to: usize) -> &[u8] {
-    if to <= s.len() {
-        if from <= to {
-            return &s[from..to];
-        }
-    }
-    &s[..0]
-}
-
-pub(crate) fn thirteen(s: &[u8]) -> [u8; 13] {
-    let mut block = [0u8; 13];
+// The first N bytes, and zeros where there are fewer.
+pub(crate) fn filled<const N: usize>(s: &[u8]) -> [u8; N] {
+    let mut block = [0u8; N];
     octets::xor_into(&mut block, s);
     block
 }
 
-pub(crate) fn sixteen(s: &[u8]) -> [u8; 16] {
-    let mut block = [0u8; 16];
-    octets::xor_into(&mut block, s);
-    block
+// The first n bytes, or all where there are fewer; and those after them.
+pub(crate) fn parted(s: &[u8], n: usize) -> (&[u8], &[u8]) {
+    s.split_at(n.min(s.len()))
 }

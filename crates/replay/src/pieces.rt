@@ -1,61 +1,41 @@
 // The calls below the frames: hashes, control byte, headers, auxiliary header, cipher.
-ghost use Rattle.std.specs.Prelude.{◌≤◌};
-
-use crate::asked::{Case, first_in, second_in};
-use crate::classes::class_of;
-use crate::parts::{part, sixteen, thirteen, wide};
-use crate::spaces::{blank, lay};
-use crate::telling::{
-    NUMBERS, ROWS, tell_answer, tell_bytes, tell_next, tell_none, tell_number, text,
-};
-use answer::Outcome;
-use auxiliary_header::{Auxiliary, AuxiliaryRead, KeyUsed, Sender};
+use crate::asked::Case;
+use crate::classes::nwk_class;
+use crate::parts::{filled, parted};
+use crate::telling::{Line, NUMBERS, ROWS};
+use answer::Refusal;
+use auxiliary_header::{Auxiliary, KeyUsed};
 use control::{Control, KeyIdentifier};
-use frame_header::{ApsRead, NwkRead};
-use mmo::Digest;
+use std::io;
 
-// Present or absent, in a number.
-fn flag(is: bool) -> u64 {
-    if is { 1 } else { 0 }
+fn tell_outcome(outcome: Result<(), Refusal>, line: Line<'_>) -> io::Result<()> {
+    line.outcome(outcome, nwk_class)?;
+    line.none(NUMBERS)?;
+    line.none(ROWS)
 }
 
-// Nothing but a number: no numbers, no rows, no bytes.
-fn tell_only(show: u8, answer: u8) {
-    tell_answer(show, answer, 0, 0);
-    tell_none(show, NUMBERS);
-    tell_none(show, ROWS);
-    tell_bytes(show, b"");
+// Nothing but a refusal: no numbers, no rows, no bytes.
+fn tell_refusal(refusal: Refusal, line: Line<'_>) -> io::Result<()> {
+    tell_outcome(Err(refusal), line)?;
+    line.bytes(&[])
 }
 
-fn tell_outcome(show: u8, outcome: Outcome) {
-    tell_answer(show, class_of(answer::outcome_number(outcome)), 0, 0);
-    tell_none(show, NUMBERS);
-    tell_none(show, ROWS);
+// A refusal's value is told as 16 zero bytes.
+fn tell_value(value: Result<[u8; 16], Refusal>, line: Line<'_>) -> io::Result<()> {
+    tell_outcome(value.map(|_| ()), line)?;
+    line.bytes(&value.unwrap_or([0; 16]))
 }
 
-fn tell_digest(show: u8, digest: Digest) {
-    let outcome = digest.outcome;
-    let value = digest.value;
-    tell_outcome(show, outcome);
-    tell_bytes(show, &value);
+pub(crate) fn hash(case: &Case<'_>, line: Line<'_>) -> io::Result<()> {
+    tell_value(primitives::hash(case.first), line)
 }
 
-pub(crate) fn hash(case: Case, body: &[u8]) {
-    tell_digest(case.show, primitives::hash(first_in(case, body)));
+pub(crate) fn hash_from(case: &Case<'_>, line: Line<'_>) -> io::Result<()> {
+    tell_value(primitives::hash_from(case.first, case.second), line)
 }
 
-pub(crate) fn hash_from(case: Case, body: &[u8]) {
-    tell_digest(
-        case.show,
-        primitives::hash_from(first_in(case, body), second_in(case, body)),
-    );
-}
-
-pub(crate) fn keyed_hash(case: Case, body: &[u8]) {
-    tell_digest(
-        case.show,
-        primitives::keyed_hash(first_in(case, body), second_in(case, body)),
-    );
+pub(crate) fn keyed_hash(case: &Case<'_>, line: Line<'_>) -> io::Result<()> {
+    tell_value(primitives::keyed_hash(case.first, case.second), line)
 }
 
 fn identifier(key: KeyIdentifier) -> u64 {
@@ -67,170 +47,133 @@ fn identifier(key: KeyIdentifier) -> u64 {
     }
 }
 
-pub(crate) fn control(case: Case) {
-    let control = Control { byte: case.control };
-    tell_answer(case.show, 0, 0, 0);
-    tell_number(case.show, control.level() as u64);
-    tell_next(case.show, control.tag_length() as u64);
-    tell_next(case.show, identifier(control.key()));
-    tell_next(case.show, flag(control.has_sender()));
-    tell_next(case.show, flag(control.has_number()));
-    tell_next(case.show, control.filled(case.level).byte as u64);
-    tell_none(case.show, ROWS);
-    tell_bytes(case.show, b"");
+pub(crate) fn control(case: &Case<'_>, line: Line<'_>) -> io::Result<()> {
+    let control = Control {
+        byte: case.head.control,
+    };
+    line.number_and_span(0, 0, 0)?;
+    line.number(control.level() as u64)?;
+    line.next(control.tag_length() as u64)?;
+    line.next(identifier(control.key()))?;
+    line.next(control.has_sender() as u64)?;
+    line.next(control.has_number() as u64)?;
+    line.next(control.filled(case.head.level).byte as u64)?;
+    line.none(ROWS)?;
+    line.bytes(&[])
 }
 
-pub(crate) fn nwk_header(case: Case, body: &[u8]) {
-    match frame_header::nwk(first_in(case, body)) {
-        NwkRead::Cut => tell_only(case.show, 2),
-        NwkRead::Whole(h) => {
-            tell_answer(case.show, 0, 0, h.len);
-            tell_number(case.show, h.kind as u64);
-            tell_next(case.show, flag(h.secured));
-            tell_none(case.show, ROWS);
-            tell_bytes(case.show, b"");
+pub(crate) fn nwk_header(case: &Case<'_>, line: Line<'_>) -> io::Result<()> {
+    match frame_header::nwk(case.first) {
+        Err(refusal) => tell_refusal(refusal, line),
+        Ok(h) => {
+            line.number_and_span(0, 0, h.len)?;
+            line.number(u8::from(h.kind) as u64)?;
+            line.next(h.secured as u64)?;
+            line.none(ROWS)?;
+            line.bytes(&[])
         }
     }
 }
 
-pub(crate) fn aps_header(case: Case, body: &[u8]) {
-    match frame_header::aps(first_in(case, body)) {
-        ApsRead::Cut => tell_only(case.show, 2),
-        ApsRead::NotTaken => tell_only(case.show, 7),
-        ApsRead::Whole(h) => {
-            tell_answer(case.show, 0, 0, h.len);
-            tell_number(case.show, flag(h.command));
-            tell_next(case.show, flag(h.secured));
-            tell_none(case.show, ROWS);
-            tell_bytes(case.show, b"");
+pub(crate) fn aps_header(case: &Case<'_>, line: Line<'_>) -> io::Result<()> {
+    match frame_header::aps(case.first) {
+        Err(refusal) => tell_refusal(refusal, line),
+        Ok(h) => {
+            line.number_and_span(0, 0, h.len)?;
+            line.number(h.command as u64)?;
+            line.next(h.secured as u64)?;
+            line.none(ROWS)?;
+            line.bytes(&[])
         }
     }
 }
 
-fn tell_sender(show: u8, sender: Sender) {
-    match sender {
-        Sender::Absent => {
-            tell_next(show, 0);
-            tell_next(show, 0);
-        }
-        Sender::Address(address) => {
-            tell_next(show, 1);
-            tell_next(show, address);
-        }
+fn tell_auxiliary(a: Auxiliary, line: Line<'_>) -> io::Result<()> {
+    line.number_and_span(0, 0, a.next)?;
+    line.number(a.control.byte as u64)?;
+    line.next(a.counter as u64)?;
+    line.next(a.sender.is_some() as u64)?;
+    line.next(a.sender.unwrap_or(0))?;
+    line.next(identifier(a.control.key()))?;
+    match a.key {
+        KeyUsed::Network(number) => line.next(number as u64)?,
+        _ => line.next(0)?,
+    }
+    line.none(ROWS)?;
+    line.bytes(&[])
+}
+
+pub(crate) fn read_auxiliary(case: &Case<'_>, line: Line<'_>) -> io::Result<()> {
+    match auxiliary_header::read(case.first, 0) {
+        Err(refusal) => tell_refusal(refusal, line),
+        Ok(a) => tell_auxiliary(a, line),
     }
 }
 
-fn tell_key(show: u8, control: Control, key: KeyUsed) {
-    tell_next(show, identifier(control.key()));
-    match key {
-        KeyUsed::Network(number) => tell_next(show, number as u64),
-        KeyUsed::Link => tell_next(show, 0),
-        KeyUsed::Transport => tell_next(show, 0),
-        KeyUsed::Load => tell_next(show, 0),
+pub(crate) fn write_auxiliary(
+    case: &Case<'_>,
+    space: &mut [u8],
+    line: Line<'_>,
+) -> io::Result<()> {
+    let head = case.head;
+    if space.len() < head.room {
+        return line.text("bad\n");
+    }
+    let out = &mut space[..head.room];
+    out.fill(0xee);
+    let control = Control { byte: head.control };
+    let written = auxiliary_header::write(out, 0, control, head.counter, head.device, head.number);
+    tell_outcome(written, line)?;
+    line.bytes(out)
+}
+
+// Key, nonce and associated data, as the first string has them.
+struct Under<'a> {
+    keys: [u32; 44],
+    nonce: [u8; 13],
+    associated: &'a [u8],
+}
+
+fn under(s: &[u8]) -> Under<'_> {
+    let (key, rest) = parted(s, 16);
+    let (nonce, associated) = parted(rest, 13);
+    Under {
+        keys: aes::expand(filled(key)),
+        nonce: filled(nonce),
+        associated,
     }
 }
 
-fn tell_auxiliary(show: u8, a: Auxiliary) {
-    let control = a.control;
-    let sender = a.sender;
-    let key = a.key;
-    tell_answer(show, 0, 0, a.next);
-    tell_number(show, control.byte as u64);
-    tell_next(show, a.counter as u64);
-    tell_sender(show, sender);
-    tell_key(show, control, key);
-    tell_none(show, ROWS);
-    tell_bytes(show, b"");
-}
-
-pub(crate) fn read_auxiliary(case: Case, body: &[u8]) {
-    match auxiliary_header::read(first_in(case, body), 0) {
-        AuxiliaryRead::Cut => tell_only(case.show, 2),
-        AuxiliaryRead::Whole(a) => tell_auxiliary(case.show, a),
+// The message is in the second string. The message with its tag is told.
+pub(crate) fn seal(case: &Case<'_>, space: &mut [u8], line: Line<'_>) -> io::Result<()> {
+    let under = under(case.first);
+    let at = under.associated.len();
+    let n = case.second.len();
+    let tag = case.head.number as usize;
+    if space.len() < at || space.len() - at < n || space.len() - at - n < tag {
+        return line.text("bad\n");
     }
-}
-
-pub(crate) fn write_auxiliary(case: Case, space: &mut [u8]) {
-    let room = case.room;
-    blank(space);
-    if space.len() < room {
-        text(b"bad\n");
-        return;
-    }
-    let outcome = auxiliary_header::write(
-        &mut space[..room],
-        0,
-        Control { byte: case.control },
-        case.counter,
-        case.device,
-        case.number,
-    );
-    tell_outcome(case.show, outcome);
-    tell_bytes(case.show, part(space, 0, room));
-}
-
-// Associated data and what comes after them. Where the second ends; 0 where there is no space for both and a tag more.
-fn joined(a: &[u8], b: &[u8], space: &mut [u8]) -> usize
-    ensures { result ≤ 4096 }
-{
-    let at = a.len();
-    lay(a, space);
-    if space.len() < at {
-        return 0;
-    }
-    lay(b, &mut space[at..]);
-    if 4096 < at {
-        return 0;
-    }
-    if 4096 - at < b.len() {
-        return 0;
-    }
-    at + b.len()
-}
-
-// Key, nonce and associated data in the first string, the message in the second. The message with its tag is told.
-pub(crate) fn seal(case: Case, body: &[u8], space: &mut [u8]) {
-    let s = first_in(case, body);
-    let associated = part(s, 29, s.len());
-    let message = second_in(case, body);
-    let end = joined(associated, message, space) + wide(case.number);
-    if space.len() < end {
-        text(b"bad\n");
-        return;
-    }
-    let keys = aes::expand(sixteen(part(s, 0, 16)));
-    let outcome = ccm::seal(
-        &keys,
-        thirteen(part(s, 16, 29)),
-        wide(case.number),
-        &mut space[..end],
-        associated.len(),
-        message.len(),
-    );
-    tell_outcome(case.show, outcome);
-    tell_bytes(case.show, part(space, associated.len(), end));
+    let out = &mut space[..at + n + tag];
+    out[..at].copy_from_slice(under.associated);
+    out[at..at + n].copy_from_slice(case.second);
+    let sealed = ccm::seal(&under.keys, under.nonce, tag, out, at, n);
+    tell_outcome(sealed, line)?;
+    line.bytes(out.get(at..).unwrap_or(&[]))
 }
 
 // The same, with the sealed message and its tag in the second string. What stands there after the call is told.
-pub(crate) fn unseal(case: Case, body: &[u8], space: &mut [u8]) {
-    let s = first_in(case, body);
-    let associated = part(s, 29, s.len());
-    let sealed = second_in(case, body);
-    let tag = wide(case.number);
-    let end = joined(associated, sealed, space);
-    if space.len() < end || sealed.len() < tag {
-        text(b"bad\n");
-        return;
+pub(crate) fn unseal(case: &Case<'_>, space: &mut [u8], line: Line<'_>) -> io::Result<()> {
+    let under = under(case.first);
+    let at = under.associated.len();
+    let n = case.second.len();
+    let tag = case.head.number as usize;
+    if space.len() < at || space.len() - at < n || n < tag {
+        return line.text("bad\n");
     }
-    let keys = aes::expand(sixteen(part(s, 0, 16)));
-    let outcome = ccm::unseal(
-        &keys,
-        thirteen(part(s, 16, 29)),
-        tag,
-        &mut space[..end],
-        associated.len(),
-        sealed.len() - tag,
-    );
-    tell_outcome(case.show, outcome);
-    tell_bytes(case.show, part(space, associated.len(), end));
+    let buf = &mut space[..at + n];
+    buf[..at].copy_from_slice(under.associated);
+    buf[at..].copy_from_slice(case.second);
+    let opened = ccm::unseal(&under.keys, under.nonce, tag, buf, at, n - tag);
+    tell_outcome(opened, line)?;
+    line.bytes(buf.get(at..).unwrap_or(&[]))
 }

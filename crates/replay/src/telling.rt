@@ -1,39 +1,23 @@
 // The line that answers a case: answer, start, length, numbers, rows, bytes, with a space between two. `-` is none, `.` what the case does not
 // ask for.
-use crate::parts::{least, part};
+ghost use Rattle.std.specs.Prelude.{};
 
-// Standard output.
-const STDOUT: i32 = 1;
+use answer::{Accepted, Answer, Refusal};
+use std::io::{self, Write};
 
 // What a case asks to be shown.
-pub(crate) const ANSWER: u8 = 1;
+const ANSWER: u8 = 1;
 
-pub(crate) const SPAN: u8 = 2;
+const SPAN: u8 = 2;
 
 pub(crate) const NUMBERS: u8 = 4;
 
 pub(crate) const ROWS: u8 = 8;
 
-pub(crate) const BYTES: u8 = 16;
+const BYTES: u8 = 16;
 
 // Bytes that become digits in one piece.
 const PIECE: usize = 512;
-
-pub(crate) fn text(s: &[u8]) {
-    io::write_all(STDOUT, s);
-}
-
-pub(crate) fn decimal(n: u64) {
-    io::print_decimal(STDOUT, n);
-}
-
-pub(crate) fn hexadecimal(n: u64, width: usize) {
-    io::print_hex(STDOUT, n, width);
-}
-
-pub(crate) fn shown(show: u8, what: u8) -> bool {
-    show & what != 0
-}
 
 // The digit for the lower four bits.
 fn digit(n: u8) -> u8 {
@@ -41,80 +25,111 @@ fn digit(n: u8) -> u8 {
     if low < 10 { 48 + low } else { 87 + low }
 }
 
-// The first 512 bytes, or all.
-fn piece(s: &[u8]) {
-    let mut digits = [0u8; 1024];
-    let n = least(s.len(), PIECE);
-    let mut i = 0;
-    while i < n {
-        digits[2 * i] = digit(s[i] / 16);
-        digits[2 * i + 1] = digit(s[i]);
-        i += 1;
-    }
-    text(part(&digits, 0, 2 * n));
+#[derive(Clone, Copy)]
+pub(crate) struct Line<'a> {
+    pub rt: &'a HostRuntime,
+    pub show: u8,
 }
 
-pub(crate) fn octets(s: &[u8]) {
-    let mut at = 0;
-    while PIECE < s.len() - at {
-        piece(&s[at..]);
-        at += PIECE;
+impl<'a> Line<'a> {
+    pub fn shows(self, what: u8) -> bool {
+        self.show & what != 0
     }
-    piece(&s[at..]);
-}
 
-pub(crate) fn tell_answer(show: u8, answer: u8, start: usize, len: usize) {
-    if shown(show, ANSWER) {
-        decimal(answer as u64);
-    } else {
-        text(b".");
+    pub fn text(self, s: &str) -> io::Result<()> {
+        self.rt.stdout().write_all(s.as_bytes())
     }
-    if shown(show, SPAN) {
-        text(b" ");
-        decimal(start as u64);
-        text(b" ");
-        decimal(len as u64);
-    } else {
-        text(b" . .");
-    }
-}
 
-// The only number, or the first of some.
-pub(crate) fn tell_number(show: u8, n: u64) {
-    text(b" ");
-    if shown(show, NUMBERS) {
-        decimal(n);
-    } else {
-        text(b".");
+    fn decimal(self, n: u64) -> io::Result<()> {
+        print!(self.rt; "{n}")
     }
-}
 
-pub(crate) fn tell_next(show: u8, n: u64) {
-    if shown(show, NUMBERS) {
-        text(b",");
-        decimal(n);
+    fn piece(self, s: &[u8]) -> io::Result<()> {
+        let mut digits = [0u8; 2 * PIECE];
+        for (pair, x) in digits.chunks_exact_mut(2).zip(s) {
+            pair[0] = digit(*x / 16);
+            pair[1] = digit(*x);
+        }
+        let end = digits.len().min(2 * s.len().min(PIECE));
+        self.rt.stdout().write_all(&digits[..end])
     }
-}
 
-pub(crate) fn tell_none(show: u8, what: u8) {
-    if shown(show, what) {
-        text(b" -");
-    } else {
-        text(b" .");
+    pub fn octets(self, s: &[u8]) -> io::Result<()> {
+        for piece in s.chunks(PIECE) {
+            self.piece(piece)?;
+        }
+        Ok(())
     }
-}
 
-// The bytes, and the line's end.
-pub(crate) fn tell_bytes(show: u8, s: &[u8]) {
-    if s.len() == 0 {
-        tell_none(show, BYTES);
-    } else {
-        text(b" ");
-        if shown(show, BYTES) {
-            octets(s);
+    pub fn number_and_span(self, number: u8, start: usize, len: usize) -> io::Result<()> {
+        if self.shows(ANSWER) {
+            self.decimal(number as u64)?;
         } else {
-            text(b".");
+            self.text(".")?;
+        }
+        if self.shows(SPAN) {
+            print!(self.rt; " {start} {len}")
+        } else {
+            self.text(" . .")
         }
     }
-    text(b"\n");
+
+    // An answer, with its refusal led back to a class.
+    pub fn answer<F: Fn(Refusal) -> u8>(self, answer: Answer, class: F) -> io::Result<()>
+        requires { F.IsAlwaysCallable class }
+    {
+        match answer {
+            Ok(Accepted::Done { start, len }) => self.number_and_span(0, start, len),
+            Ok(Accepted::Plain { start, len }) => self.number_and_span(1, start, len),
+            Err(refusal) => self.number_and_span(class(refusal), 0, 0),
+        }
+    }
+
+    pub fn outcome<F: Fn(Refusal) -> u8>(
+        self,
+        outcome: Result<(), Refusal>,
+        class: F,
+    ) -> io::Result<()>
+        requires { F.IsAlwaysCallable class }
+    {
+        match outcome {
+            Ok(()) => self.number_and_span(0, 0, 0),
+            Err(refusal) => self.number_and_span(class(refusal), 0, 0),
+        }
+    }
+
+    // The only number, or the first of some.
+    pub fn number(self, n: u64) -> io::Result<()> {
+        self.text(" ")?;
+        if self.shows(NUMBERS) {
+            self.decimal(n)
+        } else {
+            self.text(".")
+        }
+    }
+
+    pub fn next(self, n: u64) -> io::Result<()> {
+        if self.shows(NUMBERS) {
+            print!(self.rt; ",{n}")
+        } else {
+            Ok(())
+        }
+    }
+
+    pub fn none(self, what: u8) -> io::Result<()> {
+        self.text(if self.shows(what) { " -" } else { " ." })
+    }
+
+    // The bytes, and the line's end.
+    pub fn bytes(self, s: &[u8]) -> io::Result<()> {
+        if s.is_empty() {
+            self.none(BYTES)?;
+        } else if self.shows(BYTES) {
+            self.text(" ")?;
+            self.octets(s)?;
+        } else {
+            self.text(" .")?;
+        }
+        self.text("\n")
+    }
 }

@@ -1,0 +1,99 @@
+// The tables of a case, and how they are told.
+use crate::asked::Case;
+use crate::parts::{eight, filled, four, octet};
+use crate::telling::{Line, ROWS};
+use aib::{PairRow, Pairs};
+use by_value::CounterTable;
+use nib::{CounterRow, NetworkKey, NetworkKeys};
+use std::io;
+
+fn key_in(s: &[u8]) -> NetworkKey {
+    let key = s.get(1..).unwrap_or(&[]);
+    nib::key_row(octet(s, 0), filled(key))
+}
+
+pub(crate) fn keys_of(case: &Case<'_>) -> NetworkKeys {
+    let mut rows = [nib::key_row(0, [0; 16]); 2];
+    for (row, s) in rows.iter_mut().zip(case.keys.chunks(17)) {
+        *row = key_in(s);
+    }
+    NetworkKeys {
+        rows,
+        used: case.head.keys as usize,
+    }
+}
+
+fn row_in(s: &[u8]) -> CounterRow {
+    nib::recorded_row(octet(s, 0), eight(s, 1), four(s, 9))
+}
+
+pub(crate) fn table_of(case: &Case<'_>) -> CounterTable {
+    let mut rows = [nib::empty_row(); 64];
+    for (row, s) in rows.iter_mut().zip(case.rows.chunks(13)) {
+        *row = row_in(s);
+    }
+    CounterTable {
+        rows,
+        used: case.head.rows as usize,
+    }
+}
+
+fn pair_in(s: &[u8]) -> PairRow {
+    let key = s.get(9..).unwrap_or(&[]);
+    PairRow {
+        device: eight(s, 0),
+        attribute: octet(s, 8),
+        key: filled(key),
+        kind: octet(s, 25),
+        outgoing: four(s, 26),
+        incoming: four(s, 30),
+    }
+}
+
+pub(crate) fn pairs_of(case: &Case<'_>) -> Pairs {
+    let mut rows = [pair_in(&[]); 16];
+    for (row, s) in rows.iter_mut().zip(case.pairs.chunks(34)) {
+        *row = pair_in(s);
+    }
+    Pairs {
+        rows,
+        used: case.head.pairs as usize,
+    }
+}
+
+pub(crate) fn tell_table(line: Line<'_>, table: &CounterTable) -> io::Result<()> {
+    if !line.shows(ROWS) || table.used == 0 {
+        return line.none(ROWS);
+    }
+    line.text(" ")?;
+    for row in table.rows.iter().take(table.used) {
+        let CounterRow {
+            number,
+            sender,
+            counter,
+        } = *row;
+        print!(line.rt; "{number:02x}{sender:016x}{counter:08x}")?;
+    }
+    Ok(())
+}
+
+pub(crate) fn tell_pairs(line: Line<'_>, pairs: &Pairs) -> io::Result<()> {
+    if !line.shows(ROWS) || pairs.used == 0 {
+        return line.none(ROWS);
+    }
+    line.text(" ")?;
+    for row in pairs.rows.iter().take(pairs.used) {
+        let PairRow {
+            device,
+            attribute,
+            key,
+            kind,
+            outgoing,
+            incoming,
+        } = *row;
+        print!(line.rt; "{device:016x}{attribute:02x}")?;
+        line.octets(&key)?;
+        print!(line.rt; "{kind:02x}{outgoing:08x}{incoming:08x}")?;
+    }
+    Ok(())
+}
