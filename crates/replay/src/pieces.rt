@@ -144,19 +144,28 @@ fn under(s: &[u8]) -> Under<'_> {
     }
 }
 
+// Two strings laid into the space, one after the other: where the second ends, or 0 where there is no space for both.
+fn laid(a: &[u8], b: &[u8], space: &mut [u8]) -> usize {
+    for (to, from) in space.iter_mut().zip(a.iter().chain(b)) {
+        *to = *from;
+    }
+    if space.len() < a.len() || space.len() - a.len() < b.len() {
+        return 0;
+    }
+    a.len() + b.len()
+}
+
 // The message is in the second string. The message with its tag is told.
 pub(crate) fn seal(case: &Case<'_>, space: &mut [u8], line: Line<'_>) -> io::Result<()> {
     let under = under(case.first);
     let at = under.associated.len();
-    let n = case.second.len();
     let tag = case.head.number as usize;
-    if space.len() < at || space.len() - at < n || space.len() - at - n < tag {
+    let end = laid(under.associated, case.second, space) + tag;
+    if space.len() < end {
         return line.text("bad\n");
     }
-    let out = &mut space[..at + n + tag];
-    out[..at].copy_from_slice(under.associated);
-    out[at..at + n].copy_from_slice(case.second);
-    let sealed = ccm::seal(&under.keys, under.nonce, tag, out, at, n);
+    let out = &mut space[..end];
+    let sealed = ccm::seal(&under.keys, under.nonce, tag, out, at, case.second.len());
     tell_outcome(sealed, line)?;
     line.bytes(out.get(at..).unwrap_or(&[]))
 }
@@ -167,12 +176,11 @@ pub(crate) fn unseal(case: &Case<'_>, space: &mut [u8], line: Line<'_>) -> io::R
     let at = under.associated.len();
     let n = case.second.len();
     let tag = case.head.number as usize;
-    if space.len() < at || space.len() - at < n || n < tag {
+    let end = laid(under.associated, case.second, space);
+    if space.len() < end || n < tag {
         return line.text("bad\n");
     }
-    let buf = &mut space[..at + n];
-    buf[..at].copy_from_slice(under.associated);
-    buf[at..].copy_from_slice(case.second);
+    let buf = &mut space[..end];
     let opened = ccm::unseal(&under.keys, under.nonce, tag, buf, at, n - tag);
     tell_outcome(opened, line)?;
     line.bytes(buf.get(at..).unwrap_or(&[]))
