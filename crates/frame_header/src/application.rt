@@ -98,10 +98,9 @@ impl ApsControl {
         if self.command() {
             return 2;
         }
-        if matches!(self.delivery(), Delivery::Group) {
-            9
-        } else {
-            8
+        match self.delivery() {
+            Delivery::Group => 9,
+            Delivery::Unicast | Delivery::Reserved | Delivery::Broadcast => 8,
         }
     }
 }
