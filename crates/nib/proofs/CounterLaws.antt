@@ -1,28 +1,25 @@
 -- What is held and what a call leaves, by the place that a search yields. Assumes nothing.
-use Rattle.std.specs.Prelude.{◌≡◌, ℕ, suc, ◌+◌, ◌<◌, ◌≤◌, Bool, true, false, ltb, List, ◌++◌, length, take, drop, nat_lt, slice_index_or, slice_set, refl}
-use Rattle.std.proofs.Common.{sym, ap, ◌∙◌, true≢false, arith, add-one, length-set, take-append-drop, length-take-le, drop-set-lt}
+use Rattle.std.specs.Prelude.{◌≡◌, ℕ, suc, ◌+◌, ◌<◌, ◌≤◌, Bool, true, false, cond, ltb, Option, None, Some, Result, Ok, Err, position, List, ◌++◌, length, take, drop, nat_lt, slice_index_or, slice_set, refl}
+use Rattle.std.proofs.Common.{sym, ap, ◌∙◌, arith, add-one, length-set, take-append-drop, length-take-le, drop-set-lt}
 use Rattle.std.proofs.Math.Decide.{dec_le}
 use Rattle.std.proofs.Math.Seq.{take-append_seam}
-use borrow.Author.Tests.{eq-eqb, ne_eqb, lt-ltb, le-ltb}
-use Rattle.answer.specs.declared.Outcome.TheVariants.{Done}
+use borrow.Author.Tests.{lt-ltb, le-ltb}
+use Rattle.answer.specs.declared.Refusal.{Refusal}
 use Rattle.answer.specs.declared.Refusal.TheVariants.{Unsupported, TableFull}
+use Rattle.answer.specs.Numbers.{giving}
 use Rattle.cells.specs.FirstLaws.{passes-used}
-use Rattle.cells.specs.Lists.{keep}
 use Rattle.cells.specs.Rows.{is_row, put, place_of, room}
-use Rattle.cells.proofs.Search.{lent-le, lent_row, lent-cell, lent-put}
-use Rattle.nib.specs.declared.counters.Change.{Change}
+use Rattle.cells.proofs.Search.{lent-le, lent_row, lent-cell, lent-put, place-some, place-none}
 use Rattle.nib.specs.declared.counters.CounterRow.{CounterRow}
-use Rattle.nib.specs.declared.counters.Recorded.{Recorded}
-use Rattle.nib.specs.declared.counters.Placement.{Placement}
+use Rattle.nib.specs.declared.counters.Standing.TheVariants.{Held, Free, Full}
 use Rattle.nib.specs.Pairs.{Pair, same-pair-eq}
-use Rattle.nib.specs.Counters.{Cell, counter_rows, row_pair, row_cell, row_of, capacity, overfull, held_for, over, After, left, refused, placed, settled, empty, kept, closed, forgotten}
-use Rattle.nib.specs.Placing.{searched, nobody, placing, closing}
+use Rattle.nib.specs.Counters.{Cell, counter_rows, row_pair, row_cell, row_of, capacity, overfull, held_for, over, After, left, refused, placed, empty, kept, closed, forgotten}
 
 module _ (rows : List CounterRow) (used : ℕ) (k : Pair) where
   abbrev pub at : ℕ
   at = place_of counter_rows (take used rows) k
 
-  pub held-over : capacity (length rows) < used → held_for rows used k ≡ record { room = false; found = false; row = empty }
+  pub held-over : capacity (length rows) < used → held_for rows used k ≡ Full
   unfolding held_for
   held-over h = rw (lt-ltb (capacity (length rows)) used h)
 
@@ -58,13 +55,13 @@ module _ (rows : List CounterRow) (used : ℕ) (k : Pair) where
         let t : ltb at used ≡ false = le-ltb at used (omega arith) in
         rw (lent_row counter_rows rows used k empty in_use, t, counted)
 
-    pub held-row : at < used → held_for rows used k ≡ record { room = true; found = true; row = slice_index_or rows at empty }
+    pub held-row : at < used → held_for rows used k ≡ Held (slice_index_or rows at empty)
     unfolding held_for roomy
     held-row h =
         let q : row_pair (slice_index_or rows at empty) ≡ k = same-pair-eq _ k (passes-used (is_row counter_rows k) rows used empty in_use h) in
-        rw (not-over, with_row h, lent-cell counter_rows rows used k empty in_use, lt-ltb at used h) (λ i. record { room = true; found = true; row = row_of (sym q i) (row_cell (slice_index_or rows at empty)) })
+        rw (not-over, with_row h, lent-cell counter_rows rows used k empty in_use, lt-ltb at used h) (λ i. Held (row_of (sym q i) (row_cell (slice_index_or rows at empty))))
 
-    pub held_none : at ≡ used → held_for rows used k ≡ record { room = nat_lt used (capacity (length rows)); found = false; row = empty }
+    pub held_none : at ≡ used → held_for rows used k ≡ cond (nat_lt used (capacity (length rows))) Free Full
     unfolding held_for roomy
     held_none e =
         let t : ltb at used ≡ false = le-ltb at used (omega arith) in
@@ -87,14 +84,14 @@ module _ (rows : List CounterRow) (used : ℕ) (k : Pair) where
           let l : length (take m (slice_set rows at made)) ≡ m = length-take-le m (slice_set rows at made) (rw length-set g) in
           (ap length e ∙ l, rw (e, sym (drop-set-lt m rows at made h), take-append-drop))
 
-      pub placed-old : at < used → placed rows used k c ≡ record { outcome = Done; used = used; rows = slice_set rows at made }
+      pub placed-old : at < used → placed rows used k c ≡ record { outcome = Ok tt; used = used; rows = slice_set rows at made }
       unfolding placed roomy
       placed-old h =
           let e : put counter_rows (take used rows) k c ≡ take used (slice_set rows at made) = lent-put counter_rows rows used k empty in_use c (omega arith) ∙ rw (lt-ltb at used h) in
           let w = written used h in_use e in
           rw (not-over, with_row h, w.0, w.1)
 
-      pub placed-new : at ≡ used → used < capacity (length rows) → placed rows used k c ≡ record { outcome = Done; used = used + 1; rows = slice_set rows at made }
+      pub placed-new : at ≡ used → used < capacity (length rows) → placed rows used k c ≡ record { outcome = Ok tt; used = used + 1; rows = slice_set rows at made }
       unfolding placed roomy
       placed-new q h =
           let t : ltb at used ≡ false = le-ltb at used (omega arith) in
@@ -102,105 +99,36 @@ module _ (rows : List CounterRow) (used : ℕ) (k : Pair) where
           let w = written (suc used) (omega arith) (omega arith) e in
           rw (not-over, with_none q, lt-ltb used (capacity (length rows)) h, w.0, w.1, add-one)
 
--- ---- the same, as the code has it: by the place among the rows that are searched
+-- ---- the same, by what `position` gives of the rows in use
 
-module _ (rows : List CounterRow) (used : ℕ) where
-  abbrev many : ℕ
-  many = searched (length rows) used
+module _ (rows : List CounterRow) (used : ℕ) (k : Pair) (fits : used ≤ capacity (length rows)) where
+  in_use_lent : used ≤ length rows
+  in_use_lent = omega arith
 
-  over_none : capacity (length rows) < used → many ≡ 0
-  over_none h = rw (lt-ltb (capacity (length rows)) used h)
+  abbrev pub seen : Option ℕ
+  seen = position (is_row counter_rows k) (take used rows)
 
-  fit_all : used ≤ capacity (length rows) → many ≡ used
-  fit_all h = rw (le-ltb (capacity (length rows)) used h)
+  pub held_here : (i : ℕ) → seen ≡ Some i → Held (slice_index_or rows i empty) ≡ held_for rows used k
+  held_here i e =
+      let p = place-some counter_rows rows used k empty in_use_lent i e in
+      ap (λ (j : ℕ). Held (slice_index_or rows j empty)) (sym p.0) ∙ sym (held-row rows used k fits (rw (sym p.0) at p.1))
 
-  pub searched-le : many ≤ length rows
-  searched-le = go (dec_le used (capacity (length rows)))
-    where
-      go : Dec (used ≤ capacity (length rows)) → many ≤ length rows
-      go (yes h) = rw (fit_all h) (omega arith)
-      go (no h) = rw (over_none (omega arith)) (omega arith)
+  pub held_nowhere : seen ≡ None → cond (nat_lt used (capacity (length rows))) Free Full ≡ held_for rows used k
+  held_nowhere e = sym (held_none rows used k fits (place-none counter_rows rows used k empty in_use_lent e))
 
-  module _ (k : Pair) where
-    abbrev pub place : ℕ
-    place = place_of counter_rows (take many rows) k
+  module _ (c : Cell) where
+    pub placed_here : (i : ℕ) → seen ≡ Some i → record { outcome = Ok tt; used = used; rows = slice_set rows i (row_of k c) } ≡ placed rows used k c
+    placed_here i e =
+        let p = place-some counter_rows rows used k empty in_use_lent i e in
+        (λ j. record { outcome = Ok tt; used = used; rows = slice_set rows (sym p.0 j) (row_of k c) }) ∙ sym (placed-old rows used k fits c (rw (sym p.0) at p.1))
 
-    pub held_found : place < many → held_for rows used k ≡ record { room = true; found = true; row = slice_index_or rows place empty }
-    held_found = go (dec_le used (capacity (length rows)))
-      where
-        go : Dec (used ≤ capacity (length rows)) → place < many → held_for rows used k ≡ record { room = true; found = true; row = slice_index_or rows place empty }
-        go (yes h) = rw (fit_all h) (held-row rows used k h)
-        go (no h) = λ l. absurd (omega (arith, over_none (omega arith)))
+    pub placed_last : seen ≡ None → used < capacity (length rows) → record { outcome = Ok tt; used = used + 1; rows = slice_set rows used (row_of k c) } ≡ placed rows used k c
+    placed_last e h =
+        let p = place-none counter_rows rows used k empty in_use_lent e in
+        (λ j. record { outcome = Ok tt; used = used + 1; rows = slice_set rows (sym p j) (row_of k c) }) ∙ sym (placed-new rows used k fits c p h)
 
-    pub held-nobody : (place < many → ⊥) → held_for rows used k ≡ nobody (length rows) used
-    held-nobody = go (dec_le used (capacity (length rows)))
-      where
-        go : Dec (used ≤ capacity (length rows)) → (place < many → ⊥) → held_for rows used k ≡ nobody (length rows) used
-        go (yes h) = rw (fit_all h) (λ l. held_none rows used k h (omega (arith, at-le rows used k h)))
-        go (no h) = λ l. held-over rows used k (omega arith) ∙ rw (le-ltb used (capacity (length rows)) (omega arith))
-
-    -- what is written, and what is answered
-    module _ (c : Cell) where
-      abbrev plan : Placement
-      plan = placing true (length rows) used place
-
-      -- what follows of a plan p: the rows that are left, and that a row is written only at a place among them
-      abbrev Kept : Placement → Type 0
-      Kept p = ((p.writes ≡ true) → (place < length rows) × (left p.recorded (slice_set rows place (row_of k c)) ≡ placed rows used k c))
-          × ((p.writes ≡ false) → left p.recorded rows ≡ placed rows used k c)
-
-      nothing_written : (p : Placement) → p.writes ≡ false → left p.recorded rows ≡ placed rows used k c → Kept p
-      nothing_written p w e = ((λ t. absurd (true≢false (sym t ∙ w))), (λ _. e))
-
-      one_written : (p : Placement) → p.writes ≡ true → place < length rows → left p.recorded (slice_set rows place (row_of k c)) ≡ placed rows used k c → Kept p
-      one_written p w l e = ((λ _. (l, e)), (λ t. absurd (true≢false (sym w ∙ t))))
-
-      module _ (fits : used ≤ capacity (length rows)) where
-        abbrev p : ℕ
-        p = at rows used k
-
-        t : ltb (capacity (length rows)) used ≡ false
-        t = le-ltb (capacity (length rows)) used fits
-
-        new : p ≡ used → Dec (used < capacity (length rows)) → Kept plan
-        new e (yes h) =
-            let u = eq-eqb p used e in
-            let v = lt-ltb used (capacity (length rows)) h in
-            one_written plan (rw (t, u, v)) (rw t (omega arith)) (rw (t, u, v) (sym (placed-new rows used k fits c e h)))
-        new e (no h) =
-            let u = eq-eqb p used e in
-            let v = le-ltb used (capacity (length rows)) (omega arith) in
-            nothing_written plan (rw (t, u, v)) (rw (t, u, v) (sym (placed-full rows used k fits c e (omega arith))))
-
-        old : Dec (p < used) → Kept plan
-        old (yes h) =
-            let u = ne_eqb p used (λ q. omega arith) in
-            one_written plan (rw (t, u)) (rw t (omega arith)) (rw (t, u) (sym (placed-old rows used k fits c h)))
-        old (no h) = new (omega (arith, at-le rows used k fits)) (dec_le (suc used) (capacity (length rows)))
-
-      kept_by : Kept plan
-      kept_by = go (dec_le used (capacity (length rows)))
-        where
-          go : Dec (used ≤ capacity (length rows)) → Kept plan
-          go (yes fits) = old fits (dec_le (suc (at rows used k)) used)
-          go (no h) = let t = lt-ltb (capacity (length rows)) used (omega arith) in nothing_written plan (rw t) (rw t (sym (placed-over rows used k c (omega arith))))
-
-module _ (rows : List CounterRow) (used : ℕ) (c : Change) where
-  abbrev its : ℕ
-  its = place rows used (row_pair c.row)
-
-  -- a row is written only at a place among those lent; and what is left is what the change makes
-  abbrev Settles : Bool → Placement → Type 0
-  Settles w p = ((p.writes ≡ true) → (its < length rows) × (left p.recorded (slice_set rows its c.row) ≡ settled rows used (record { writes = w; row = c.row })))
-      × ((p.writes ≡ false) → left p.recorded rows ≡ settled rows used (record { writes = w; row = c.row }))
-
-  pub settles : Settles c.writes (placing c.writes (length rows) used its)
-  unfolding settled
-  settles = go c.writes
-    where
-      go : (w : Bool) → Settles w (placing w (length rows) used its)
-      go true = kept_by rows used (row_pair c.row) (row_cell c.row)
-      go false = ((λ t. absurd (true≢false (sym t))), (λ _. refl))
+    pub placed_nowhere : seen ≡ None → capacity (length rows) ≤ used → refused TableFull used rows ≡ placed rows used k c
+    placed_nowhere e h = sym (placed-full rows used k fits c (place-none counter_rows rows used k empty in_use_lent e) (omega arith))
 
 -- ---- forgetting
 
@@ -209,24 +137,26 @@ module _ (rows : List CounterRow) (used n : ℕ) where
   unfolding forgotten
   forgotten-over h = rw (lt-ltb (capacity (length rows)) used h)
 
-  pub forgotten-closed : used ≤ capacity (length rows) → forgotten rows used n ≡ record { outcome = Done; used = length (kept n used rows); rows = closed n used rows }
+  pub forgotten-closed : used ≤ capacity (length rows) → forgotten rows used n ≡ record { outcome = Ok tt; used = length (kept n used rows); rows = closed n used rows }
   unfolding forgotten
   forgotten-closed h = rw (le-ltb (capacity (length rows)) used h)
 
-  pub forgotten-closing : left (closing (length rows) used (length (kept n (searched (length rows) used) rows))) (closed n (searched (length rows) used) rows) ≡ forgotten rows used n
-  unfolding keep
-  forgotten-closing = go (dec_le used (capacity (length rows)))
-    where
-      go : Dec (used ≤ capacity (length rows)) → left (closing (length rows) used (length (kept n (searched (length rows) used) rows))) (closed n (searched (length rows) used) rows) ≡ forgotten rows used n
-      go (yes h) = rw (le-ltb (capacity (length rows)) used h) (sym (forgotten-closed h))
-      go (no h) = rw (lt-ltb (capacity (length rows)) used (omega arith)) (sym (forgotten-over (omega arith)))
-
 -- ---- a promise of what a call leaves allows one answer, and one content of the rows
 
-pub one : (after : After) (r r' : Recorded) (l l' : List CounterRow) → left r l ≡ after → left r' l' ≡ after → (r ≡ r') × (l ≡ l')
-one after r r' l l' e e' =
-    let same : left r l ≡ left r' l' = e ∙ sym e' in
-    ((λ i. record { outcome = (same i).outcome; used = (same i).used }), (λ i. (same i).rows))
+-- what is left says what was answered, and the rows
+abbrev told : After → Result ℕ Refusal
+told a = giving a.outcome a.used
+
+told-back : (r : Result ℕ Refusal) (used : ℕ) (l : List CounterRow) → (told (left r used l) ≡ r) × ((left r used l).rows ≡ l)
+told-back (Ok n) used l = (refl, refl)
+told-back (Err why) used l = (refl, refl)
+
+pub one : (after : After) (used : ℕ) (r r' : Result ℕ Refusal) (l l' : List CounterRow) → left r used l ≡ after → left r' used l' ≡ after → (r ≡ r') × (l ≡ l')
+one after used r r' l l' e e' =
+    let same : left r used l ≡ left r' used l' = e ∙ sym e' in
+    let a = told-back r used l in
+    let b = told-back r' used l' in
+    (sym a.0 ∙ ap told same ∙ b.0, sym a.1 ∙ ap (λ (x : After). x.rows) same ∙ b.1)
 
 -- ---- recording loses and adds no row of those lent, and what is in use after it is the table
 

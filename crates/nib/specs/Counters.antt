@@ -1,17 +1,15 @@
 -- The counters heard (document 01, 'The state' and 'Called alone'): a table of rows, each for a key number and a sender. The
 -- rows are lent, and the first `used` of them are in use.
-use Rattle.std.specs.Prelude.{ℕ, ◌-◌, min, Bool, true, false, cond, not, List, ◌++◌, length, take, drop, replicate, ◌==◌, nat_lt, refl}
-use Rattle.std.specs.Prelude.{Option, None, Some}
-use Rattle.answer.specs.declared.Outcome.{Outcome}
-use Rattle.answer.specs.declared.Outcome.TheVariants.{Done, Refused}
+use Rattle.std.specs.Prelude.{ℕ, ◌-◌, min, Bool, cond, not, List, ◌++◌, length, take, drop, replicate, ◌==◌, nat_lt, refl}
+use Rattle.std.specs.Prelude.{Option, None, Some, Result, Ok, Err}
 use Rattle.answer.specs.declared.Refusal.{Refusal}
 use Rattle.answer.specs.declared.Refusal.TheVariants.{Unsupported, TableFull}
+use Rattle.answer.specs.Numbers.{Outcome}
 use Rattle.cells.specs.Lists.{keep}
 use Rattle.cells.specs.Rows.{Rows, find, put, room}
-use Rattle.nib.specs.declared.counters.Change.{Change}
 use Rattle.nib.specs.declared.counters.CounterRow.{CounterRow}
-use Rattle.nib.specs.declared.counters.Recorded.{Recorded}
 use Rattle.nib.specs.declared.counters.Standing.{Standing}
+use Rattle.nib.specs.declared.counters.Standing.TheVariants.{Held, Free, Full}
 use Rattle.nib.specs.Pairs.{Pair, same_pair, same-pair-refl, same-pair-eq}
 
 abbrev pub pair : ℕ → ℕ → Pair
@@ -66,14 +64,14 @@ overfull rows used = nat_lt (capacity (length rows)) used
 abbrev pub empty : CounterRow
 empty = record { number = 0; sender = 0; counter = 0 }
 
--- the row that is found, or zeros
+-- the row that is found, or whether there is room for one
 abbrev pub standing : Bool → Pair → Option Cell → Standing
-standing room k None = record { room = room; found = false; row = empty }
-standing room k (Some c) = record { room = room; found = true; row = row_of k c }
+standing room k None = cond room Free Full
+standing room k (Some c) = Held (row_of k c)
 
 unfoldable pub held_for : List CounterRow → ℕ → Pair → Standing
 held_for rows used k =
-    cond (overfull rows used) (standing false k None)
+    cond (overfull rows used) Full
     (standing (room counter_rows (capacity (length rows)) (take used rows) k) k (find counter_rows (take used rows) k))
 
 -- ---- what a call leaves: its outcome, the count in use, and all rows that were lent
@@ -83,13 +81,14 @@ pub record After : Type 0 where
   pub used : ℕ
   pub rows : List CounterRow
 
--- the answer r, and the rows as they are then
-abbrev pub left : Recorded → List CounterRow → After
-left r rows = record { outcome = r.outcome; used = r.used; rows = rows }
+-- the answer r, and the rows as they are then: it has the new count in use, and a refusal leaves the old one
+abbrev pub left : Result ℕ Refusal → ℕ → List CounterRow → After
+left (Ok used) before rows = record { outcome = Ok tt; used = used; rows = rows }
+left (Err why) before rows = record { outcome = Err why; used = before; rows = rows }
 
 -- a refusal changes nothing
 abbrev pub refused : Refusal → ℕ → List CounterRow → After
-refused why used rows = record { outcome = Refused why; used = used; rows = rows }
+refused why used rows = record { outcome = Err why; used = used; rows = rows }
 
 -- the rows `table` are in use now; the rows past them stay as they were
 abbrev pub over : {A : Type 0} → List A → List A → List A
@@ -100,7 +99,7 @@ unfoldable pub placed : List CounterRow → ℕ → Pair → Cell → After
 placed rows used k c =
     cond (overfull rows used) (refused Unsupported used rows)
     (cond (room counter_rows (capacity (length rows)) (take used rows) k)
-    (let table = put counter_rows (take used rows) k c in record { outcome = Done; used = length table; rows = over table rows })
+    (let table = put counter_rows (take used rows) k c in record { outcome = Ok tt; used = length table; rows = over table rows })
     (refused TableFull used rows))
 
 -- recording, as an opening does it: the pair's row holds the counter
@@ -108,9 +107,10 @@ abbrev pub recorded : List CounterRow → ℕ → Pair → ℕ → After
 recorded rows used k n = placed rows used k (counting n)
 
 -- what a frame makes of the table: its row, or nothing
-unfoldable pub settled : List CounterRow → ℕ → Change → After
+unfoldable pub settled : List CounterRow → ℕ → Option CounterRow → After
 unfolding placed
-settled rows used c = cond c.writes (placed rows used (row_pair c.row) (row_cell c.row)) (record { outcome = Done; used = used; rows = rows })
+settled rows used None = record { outcome = Ok tt; used = used; rows = rows }
+settled rows used (Some row) = placed rows used (row_pair row) (row_cell row)
 
 -- forgetting: every row of one key number goes, gaps close in order, and zeros stand in the places given up
 abbrev pub stays : ℕ → CounterRow → Bool
@@ -126,4 +126,4 @@ closed n used rows = kept n used rows ++ (replicate (used - length (kept n used 
 unfoldable pub forgotten : List CounterRow → ℕ → ℕ → After
 forgotten rows used n =
     cond (overfull rows used) (refused Unsupported used rows)
-    (record { outcome = Done; used = length (kept n used rows); rows = closed n used rows })
+    (record { outcome = Ok tt; used = length (kept n used rows); rows = closed n used rows })

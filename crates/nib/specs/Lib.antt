@@ -5,7 +5,6 @@ pub mod Keys
 pub mod KeyLaws
 pub mod Pairs
 pub mod Counters
-pub mod Placing
 pub mod Gaps
 pub mod Forgetting
 pub mod Cases

@@ -1,10 +1,9 @@
 -- The outgoing counter (document 01, 'Reset' and 'Called alone'; ZB 4.3.1.1, 4.3.4).
-use Rattle.std.specs.Prelude.{ℕ, ◌+◌, Bool, cond, not, ◌==◌, nat_lt}
-use Rattle.answer.specs.declared.Outcome.{Outcome}
-use Rattle.answer.specs.declared.Outcome.TheVariants.{Done, Refused}
+use Rattle.std.specs.Prelude.{ℕ, ◌+◌, Bool, cond, not, ◌==◌, nat_lt, Result, Ok, Err}
+use Rattle.answer.specs.declared.Refusal.{Refusal}
 use Rattle.answer.specs.declared.Refusal.TheVariants.{CounterExhausted}
+use Rattle.answer.specs.Numbers.{Outcome}
 use Rattle.nib.specs.declared.outgoing.Outgoing.{Outgoing}
-use Rattle.nib.specs.declared.outgoing.Taken.{Taken}
 
 -- this counter is sent next
 abbrev pub sending : ℕ → Outgoing
@@ -21,14 +20,15 @@ pub record AfterTaking : Type 0 where
   pub outgoing : Outgoing
 
 -- the answer r, and the record as it is then
-abbrev pub took : Taken → Outgoing → AfterTaking
-took r o = record { outcome = r.outcome; counter = r.counter; outgoing = o }
+abbrev pub took : Result ℕ Refusal → Outgoing → AfterTaking
+took (Ok n) o = record { outcome = Ok tt; counter = n; outgoing = o }
+took (Err why) o = record { outcome = Err why; counter = 0; outgoing = o }
 
 -- the counter is handed back and the next one is left; or 0 is handed back and nothing changes
 unfoldable pub taken : Outgoing → AfterTaking
 taken o =
-    cond (may_use o) (record { outcome = Done; counter = o.next; outgoing = sending (o.next + 1) })
-    (record { outcome = Refused CounterExhausted; counter = 0; outgoing = o })
+    cond (may_use o) (record { outcome = Ok tt; counter = o.next; outgoing = sending (o.next + 1) })
+    (record { outcome = Err CounterExhausted; counter = 0; outgoing = o })
 
 -- above 0x80000000 it becomes 0, otherwise it stays
 unfoldable pub restarted : Outgoing → Outgoing

@@ -10,6 +10,7 @@ pub fn following(number: u8) -> u8
 }
 
 // The active number after a frame opened under `number`.
+#[tactic(auto, unfolding(crate::specs::Active::turn))]
 pub fn turned(active: u8, number: u8) -> u8
     ensures { result ≡ turn active number }
 {

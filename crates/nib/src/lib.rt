@@ -9,10 +9,7 @@ mod outgoing;
 mod state;
 
 pub use active::{following, turned};
-pub use counters::{
-    Change, CounterRow, Placement, Recorded, Standing, capacity, closing, empty_row, nobody,
-    placing, recorded_row, searched, somebody,
-};
-pub use keys::{KeyFound, NetworkKey, NetworkKeys, key_of, key_row};
-pub use outgoing::{Outgoing, Taken, reset, sending, usable};
+pub use counters::{CounterRow, Standing, capacity, empty_row, recorded_row};
+pub use keys::{NetworkKey, NetworkKeys, key_of, key_row};
+pub use outgoing::{Outgoing, reset, sending, usable};
 pub use state::Nwk;

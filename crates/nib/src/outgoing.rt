@@ -2,19 +2,10 @@
 ghost use Rattle.std.specs.Prelude.{◌≡◌};
 ghost use Rattle.nib.specs.Sending.{sending, may_use, restarted};
 
-use answer::Outcome;
-
 #[repr(C)]
-#[derive(Clone, Copy)]
+#[derive(Clone, Copy, Debug, PartialEq, Eq)]
 pub struct Outgoing {
     pub next: u32,
-}
-
-// The counter taken, or 0 where the outcome is a refusal.
-#[derive(Clone, Copy)]
-pub struct Taken {
-    pub outcome: Outcome,
-    pub counter: u32,
 }
 
 // The record that this counter is sent from next.
@@ -32,6 +23,7 @@ pub fn usable(outgoing: Outgoing) -> bool
 }
 
 // On a change of key: a counter past the half starts anew, so that one who changes keys often does not repeat low counters.
+#[tactic(auto, unfolding(crate::specs::Sending::restarted))]
 pub fn reset(outgoing: Outgoing) -> Outgoing
     ensures { result ≡ restarted outgoing }
 {
