@@ -1,5 +1,5 @@
 -- Laws of the auxiliary header: its lengths, and that what was written is read back. Assumes nothing.
-use Rattle.std.specs.Prelude.{◌≡◌, Bool, cond, take, drop, get_or, set}
+use Rattle.std.specs.Prelude.{◌≡◌, Bool, cond, Some, Ok, Err, take, drop, get_or, set}
 use Rattle.std.proofs.Math.Path.{refl, ap}
 use Rattle.std.proofs.Common.{◌∙◌, arith, le-leb, length-take-le}
 use Rattle.std.proofs.Math.Bool.{true, false}
@@ -17,9 +17,8 @@ use Rattle.auxiliary_header.specs.Written.{written}
 use Rattle.auxiliary_header.specs.WrittenLaws.{put}
 use Rattle.control.specs.declared.KeyIdentifier.{KeyIdentifier}
 use Rattle.control.specs.declared.KeyIdentifier.TheVariants as identifier
-use Rattle.auxiliary_header.specs.declared.auxiliary.Sender.TheVariants.{Address}
 use Rattle.auxiliary_header.specs.declared.auxiliary.KeyUsed.TheVariants as used
-use Rattle.auxiliary_header.specs.declared.auxiliary.AuxiliaryRead.TheVariants.{Whole, Cut}
+use Rattle.answer.specs.declared.Refusal.TheVariants.{Cut}
 
 -- ---- lengths
 
@@ -63,11 +62,11 @@ filled-octets control l counter sender number = rw (filled-sender control l, fil
 -- ---- read: cut, or whole
 
 module _ (s : List ℕ) (at : ℕ) where
-  pub read-cut : length s < at + auxiliary_length (get_or s at 0) → auxiliary_at s at ≡ Cut
+  pub read-cut : length s < at + auxiliary_length (get_or s at 0) → auxiliary_at s at ≡ Err Cut
   unfolding auxiliary_at
   read-cut h = rw (lt-leb (at + auxiliary_length (get_or s at 0)) (length s) h)
 
-  pub read_whole : at + auxiliary_length (get_or s at 0) ≤ length s → auxiliary_at s at ≡ Whole (fields_at s at (get_or s at 0))
+  pub read_whole : at + auxiliary_length (get_or s at 0) ≤ length s → auxiliary_at s at ≡ Ok (fields_at s at (get_or s at 0))
   unfolding auxiliary_at
   read_whole h = rw (le-leb (at + auxiliary_length (get_or s at 0)) (length s) h)
 
@@ -101,7 +100,7 @@ module _ (before after : List ℕ) (at control counter sender number : ℕ) (her
       let rest : List ℕ = number_octets control number ++ after in
       let parts : whole ≡ front ++ (low 8 sender ++ rest) = simp (e, append_assoc) in
       let size : length front ≡ at + 5 = simp (length-append, low-length) (omega arith) in
-      ap Address (rw parts (field-low front rest (at + 5) 8 sender size sender-fits))
+      ap Some (rw parts (field-low front rest (at + 5) 8 sender size sender-fits))
 
   key_back : (key : KeyIdentifier) → identifier_of control ≡ key → key_used key (get_or whole (at + 5 + sender_length control) 0) ≡ key_used key number
   unfolding auxiliary_octets
@@ -116,13 +115,13 @@ module _ (before after : List ℕ) (at control counter sender number : ℕ) (her
   key_back identifier.Load e = refl
 
   -- the fields that went in, and the place after them
-  pub read_back : auxiliary_at whole at ≡ Whole (fields control counter sender number (at + auxiliary_length control))
+  pub read_back : auxiliary_at whole at ≡ Ok (fields control counter sender number (at + auxiliary_length control))
   read_back =
       let long : length whole ≡ at + (auxiliary_length control + length after) = simp (length-append, octets-length) (omega arith) in
       let room : at + auxiliary_length (get_or whole at 0) ≤ length whole = rw control-back (omega arith) in
       read_whole whole at room
-      ∙ ap (λ (c : ℕ). Whole (fields_at whole at c)) control-back
-      ∙ (λ i. Whole (record {
+      ∙ ap (λ (c : ℕ). Ok (fields_at whole at c)) control-back
+      ∙ (λ i. Ok (record {
         control = record { byte = control };
         counter = counter-back i;
         sender = sender-back (has_sender control) refl i;
@@ -133,7 +132,7 @@ module _ (before after : List ℕ) (at control counter sender number : ℕ) (her
 -- what `write` leaves where there is room
 pub written_back : (out : List ℕ) (at control counter sender number : ℕ) → counter < 2 ^ 32 → sender < 2 ^ 64
     → at + auxiliary_length control ≤ length out
-    → auxiliary_at (written out at (auxiliary_octets control counter sender number)) at ≡ Whole (fields control counter sender number (at + auxiliary_length control))
+    → auxiliary_at (written out at (auxiliary_octets control counter sender number)) at ≡ Ok (fields control counter sender number (at + auxiliary_length control))
 written_back out at control counter sender number counter-fits sender-fits h =
     let octets = auxiliary_octets control counter sender number in
     let room : at + length octets ≤ length out = rw (octets-length control counter sender number) h in

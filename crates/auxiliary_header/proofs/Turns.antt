@@ -1,11 +1,13 @@
--- A number read and written octet by octet: one turn of each loop. Assumes nothing.
-use mathlib.Core.Path.{◌≡◌, ap, ◌∙◌}
-use mathlib.Core.List.{List, [], ◌∷◌, ◌++◌, append-nil}
-use Prim.Native.Nat.{ℕ, suc, ◌+◌, ◌-◌, ◌*◌, ◌/◌, ◌%◌, ◌^◌, ◌≤◌, ◌<◌}
-use native.Mathlib.Nat.{add-zero, zero-add, pow-le-pow_right}
+-- A number read octet by octet, one turn of the loop, and octets written to their place. Assumes nothing.
+use mathlib.Core.Path.{◌≡◌, refl, sym, ap, ap₂, ◌∙◌}
+use mathlib.Core.List.{List, [], ◌∷◌, ◌++◌, append-nil, append_assoc}
+use Prim.Native.Nat.{ℕ, zero, suc, ◌+◌, ◌-◌, ◌*◌, ◌/◌, ◌%◌, ◌^◌, ◌≤◌, ◌<◌}
+use native.Mathlib.Nat.{add-zero, zero-add, div-div-eq-div-mul, pow-le-pow_right}
 use native.Mathlib.Omega.{arith}
-use lib.ListN.{length, get_or, set, drop_of_length-le}
+use lib.ListN.{length, get_or, set, take, drop, drop_of_length-le}
 use lib.Seq.{drop-cons, sets, sets-eq}
+use borrow.Rule.Slice.PartMut.{put_mid, Post-is}
+use Rattle.std.specs.Int.{w32, w64, to_le_bytes, bytes_low_first}
 use Rattle.laws.specs.Numbers.{value, low, field}
 
 -- the field from one place further down
@@ -35,14 +37,26 @@ below_last count i number pos le h =
     let most : 256 ^ (count - i) ≤ 256 ^ 7 = pow-le-pow_right (omega arith) {i = count - i} {j = 7} (omega arith) in
     omega arith
 
--- the octets still to be stored
-pub sets-step : (s : List ℕ) (at count i rest : ℕ) → i < count
-    → sets (set s (at + i) (rest % 256)) (at + (i + 1)) (low (count - (i + 1)) (rest / 256)) ≡ sets s (at + i) (low (count - i) rest)
+-- the octets that std gives of a number are its low ones
+octets_from : (i k n : ℕ) → bytes_low_first i k n ≡ low k (n / 256 ^ i)
 unfolding low
-sets-step s at count i rest h =
-    let more : count - i ≡ suc (count - (i + 1)) = omega arith in
-    let next : at + (i + 1) ≡ suc (at + i) = omega arith in
-    rw (more, next)
+octets_from i zero n = refl
+octets_from zero (suc k) n = ap₂ ◌∷◌ (omega arith) (octets_from 1 k n ∙ ap (low k) (omega arith))
+octets_from (suc i) (suc k) n = ap (◌∷◌ (n / 256 ^ suc i % 256)) (octets_from (suc (suc i)) k n ∙ ap (low k) (further n (suc i)))
+  where
+    further : (n i : ℕ) → n / 256 ^ suc i ≡ n / 256 ^ i / 256
+    further n i = ap (λ (d : ℕ). n / d) (omega arith) ∙ sym (div-div-eq-div-mul n (256 ^ i) 256)
+
+pub octets_4 : (n : ℕ) → to_le_bytes w32 n ≡ low 4 n
+octets_4 n = octets_from 0 4 n ∙ ap (low 4) (omega arith)
+
+pub octets_8 : (n : ℕ) → to_le_bytes w64 n ≡ low 8 n
+octets_8 n = octets_from 0 8 n ∙ ap (low 8) (omega arith)
+
+-- a string copied to its place
+pub copied : (s new octets : List ℕ) (at : ℕ) → at + length octets ≤ length s → new ≡ octets → put_mid at (at + length octets - at) s new ≡ sets s at octets
+copied s new octets at h e =
+    ap₂ (λ (n rest : List ℕ). take at s ++ (n ++ rest)) e (Post-is at (at + length octets) s (omega arith)) ∙ sym (sets-eq octets s at h ∙ append_assoc (take at s) octets (drop (at + length octets) s))
 
 -- two strings stored one after the other
 sets-append : (s a b : List ℕ) (i : ℕ) → sets s i (a ++ b) ≡ sets (sets s i a) (i + length a) b

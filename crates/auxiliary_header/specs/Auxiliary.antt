@@ -1,17 +1,15 @@
 -- The auxiliary header (document 01, Layouts; ZB 4.5.1): control, counter (4), sender (8, if present), key number (1, if key
 -- identifier is 1). All numbers are low byte first.
-use Rattle.std.specs.Prelude.{Bool, cond, List, [], ◌∷◌, ◌++◌, ℕ, ◌+◌, leb, length, get_or}
+use Rattle.std.specs.Prelude.{Bool, cond, Option, Some, None, Result, Ok, Err, List, [], ◌∷◌, ◌++◌, ℕ, ◌+◌, leb, length, get_or}
+use Rattle.answer.specs.declared.Refusal.{Refusal}
+use Rattle.answer.specs.declared.Refusal.TheVariants.{Cut}
 use Rattle.laws.specs.Numbers.{field, low}
 use Rattle.control.specs.Control.{identifier_of, has_sender, has_number}
 use Rattle.control.specs.declared.KeyIdentifier.{KeyIdentifier}
 use Rattle.control.specs.declared.KeyIdentifier.TheVariants as identifier
-use Rattle.auxiliary_header.specs.declared.auxiliary.Sender.{Sender}
-use Rattle.auxiliary_header.specs.declared.auxiliary.Sender.TheVariants.{Address, Absent}
 use Rattle.auxiliary_header.specs.declared.auxiliary.KeyUsed.{KeyUsed}
 use Rattle.auxiliary_header.specs.declared.auxiliary.KeyUsed.TheVariants as used
 use Rattle.auxiliary_header.specs.declared.auxiliary.Auxiliary.{Auxiliary}
-use Rattle.auxiliary_header.specs.declared.auxiliary.AuxiliaryRead.{AuxiliaryRead}
-use Rattle.auxiliary_header.specs.declared.auxiliary.AuxiliaryRead.TheVariants.{Whole, Cut}
 
 -- how long it is
 abbrev pub sender_length : ℕ → ℕ
@@ -24,8 +22,8 @@ abbrev pub auxiliary_length : ℕ → ℕ
 auxiliary_length control = 1 + 4 + sender_length control + number_length control
 
 -- its fields, from the octets at its place
-abbrev pub sender_if : Bool → ℕ → Sender
-sender_if present sender = cond present (Address sender) Absent
+abbrev pub sender_if : Bool → ℕ → Option ℕ
+sender_if present sender = cond present (Some sender) None
 
 abbrev pub key_used : KeyIdentifier → ℕ → KeyUsed
 key_used identifier.Link number = used.Link
@@ -47,10 +45,10 @@ fields_at s at control =
     fields control (field s (at + 1) 4) (field s (at + 5) 8) (get_or s (at + 5 + sender_length control) 0) (at + auxiliary_length control)
 
 -- read from any place of any string: the fields with the place after them, or cut
-unfoldable pub auxiliary_at : List ℕ → ℕ → AuxiliaryRead
+unfoldable pub auxiliary_at : List ℕ → ℕ → Result Auxiliary Refusal
 auxiliary_at s at =
     let control : ℕ = get_or s at 0 in
-    cond (leb (at + auxiliary_length control) (length s)) (Whole (fields_at s at control)) Cut
+    cond (leb (at + auxiliary_length control) (length s)) (Ok (fields_at s at control)) (Err Cut)
 
 -- its octets
 abbrev pub sender_octets : ℕ → ℕ → List ℕ

@@ -1,15 +1,14 @@
 -- Octets written with room and without. Assumes nothing.
-use Rattle.std.specs.Prelude.{◌≡◌, List, ◌++◌, ℕ, ◌+◌, ◌≤◌, ◌<◌, take, drop}
+use Rattle.std.specs.Prelude.{◌≡◌, Ok, Err, List, ◌++◌, ℕ, ◌+◌, ◌≤◌, ◌<◌, take, drop}
 use Rattle.std.proofs.Common.{sym, ◌∙◌, append_assoc, le-leb}
 use Rattle.std.proofs.lemmas.Bool.{lt-leb}
 use Rattle.std.proofs.Math.ListN.{length}
 use Rattle.std.proofs.lemmas.List.Edits.{sets, sets-eq}
-use Rattle.answer.specs.declared.Outcome.TheVariants.{Done, Refused}
 use Rattle.answer.specs.declared.Refusal.TheVariants.{NoRoom}
 use Rattle.auxiliary_header.specs.Written.{written, outcome_of}
 
 module _ (out : List ℕ) (at : ℕ) (octets : List ℕ) where
-  pub refused : length out < at + length octets → outcome_of out at octets ≡ Refused NoRoom
+  pub refused : length out < at + length octets → outcome_of out at octets ≡ Err NoRoom
   unfolding outcome_of
   refused h = rw (lt-leb (at + length octets) (length out) h)
 
@@ -17,7 +16,7 @@ module _ (out : List ℕ) (at : ℕ) (octets : List ℕ) where
   unfolding written
   unchanged h = rw (lt-leb (at + length octets) (length out) h)
 
-  pub done : at + length octets ≤ length out → outcome_of out at octets ≡ Done
+  pub done : at + length octets ≤ length out → outcome_of out at octets ≡ Ok tt
   unfolding outcome_of
   done h = rw (le-leb (at + length octets) (length out) h)
 

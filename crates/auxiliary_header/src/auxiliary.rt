@@ -7,17 +7,11 @@ ghost use Rattle.auxiliary_header.specs.Auxiliary.{sender_length, number_length,
 ghost use Rattle.auxiliary_header.specs.Written.{written, outcome_of};
 
 use crate::numbers::{number_at, put};
-use answer::{Outcome, Refusal};
+use answer::Refusal;
 use control::{Control, KeyIdentifier};
 
-#[derive(Clone, Copy)]
-pub enum Sender {
-    Address(u64),
-    Absent,
-}
-
 // The key that a frame names. Only a network key has a number.
-#[derive(Clone, Copy)]
+#[derive(Clone, Copy, Debug, PartialEq, Eq)]
 pub enum KeyUsed {
     Link,
     Network(u8),
@@ -25,20 +19,15 @@ pub enum KeyUsed {
     Load,
 }
 
-#[derive(Clone, Copy)]
+#[derive(Clone, Copy, Debug, PartialEq, Eq)]
 pub struct Auxiliary {
     pub control: Control,
     pub counter: u32,
-    pub sender: Sender,
+    // where the control byte says that it is present
+    pub sender: Option<u64>,
     pub key: KeyUsed,
     // the place after the header
     pub next: usize,
-}
-
-#[derive(Clone, Copy)]
-pub enum AuxiliaryRead {
-    Whole(Auxiliary),
-    Cut,
 }
 
 fn sender_length(control: Control) -> usize
@@ -59,14 +48,14 @@ pub fn auxiliary_length(control: Control) -> usize
     5 + sender_length(control) + number_length(control)
 }
 
-fn sender_at(s: &[u8], at: usize, control: Control) -> Sender
+fn sender_at(s: &[u8], at: usize, control: Control) -> Option<u64>
     requires { at + sender_length control.byte ≤ length s.now }
     ensures { result ≡ sender_if (has_sender control.byte) (field s.now at 8) }
 {
     if control.has_sender() {
-        Sender::Address(number_at(s, at, 8))
+        Some(number_at(s, at, 8))
     } else {
-        Sender::Absent
+        None
     }
 }
 
@@ -83,18 +72,16 @@ fn key_at(s: &[u8], at: usize, control: Control) -> KeyUsed
 }
 
 // The auxiliary header that starts at `at`, any place at all.
-pub fn read(s: &[u8], at: usize) -> AuxiliaryRead
+pub fn read(s: &[u8], at: usize) -> Result<Auxiliary, Refusal>
     ensures { result ≡ auxiliary_at s.now at }
 {
-    if s.len() <= at {
-        return AuxiliaryRead::Cut;
-    }
-    let control = Control { byte: s[at] };
+    let byte = s.get(at).copied().ok_or(Refusal::Cut)?;
+    let control = Control { byte };
     let length = auxiliary_length(control);
     if s.len() - at < length {
-        return AuxiliaryRead::Cut;
+        return Err(Refusal::Cut);
     }
-    AuxiliaryRead::Whole(Auxiliary {
+    Ok(Auxiliary {
         control,
         counter: number_at(s, at + 1, 4) as u32,
         sender: sender_at(s, at + 5, control),
@@ -108,7 +95,7 @@ fn put_sender(out: &mut [u8], at: usize, control: Control, sender: u64)
     ensures { out.new ≡ sets out.old at (sender_octets control.byte sender) }
 {
     if control.has_sender() {
-        put(out, at, 8, sender);
+        put(out, at, &sender.to_le_bytes());
     }
 }
 
@@ -127,7 +114,7 @@ fn put_all(out: &mut [u8], at: usize, control: Control, counter: u32, sender: u6
     ensures { out.new ≡ sets out.old at (auxiliary_octets control.byte counter sender number) }
 {
     out[at] = control.byte;
-    put(out, at + 1, 4, counter as u64);
+    put(out, at + 1, &counter.to_le_bytes());
     put_sender(out, at + 5, control, sender);
     put_number(out, at + 5 + sender_length(control), control, number);
 }
@@ -140,16 +127,13 @@ pub fn write(
     counter: u32,
     sender: u64,
     number: u8,
-) -> Outcome
+) -> Result<(), Refusal>
     ensures value { result ≡ outcome_of out.old at (auxiliary_octets control.byte counter sender number) }
     ensures out_after { out.new ≡ written out.old at (auxiliary_octets control.byte counter sender number) }
 {
-    if out.len() <= at {
-        return Outcome::Refused(Refusal::NoRoom);
-    }
-    if out.len() - at < auxiliary_length(control) {
-        return Outcome::Refused(Refusal::NoRoom);
+    if out.len().saturating_sub(at) < auxiliary_length(control) {
+        return Err(Refusal::NoRoom);
     }
     put_all(out, at, control, counter, sender, number);
-    Outcome::Done
+    Ok(())
 }

@@ -5,6 +5,6 @@ mod auxiliary;
 mod nonces;
 mod numbers;
 
-pub use auxiliary::{Auxiliary, AuxiliaryRead, KeyUsed, Sender, auxiliary_length, read, write};
+pub use auxiliary::{Auxiliary, KeyUsed, auxiliary_length, read, write};
 pub use nonces::nonce;
 pub use numbers::number_at;

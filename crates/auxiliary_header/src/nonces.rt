@@ -10,8 +10,8 @@ pub fn nonce(sender: u64, counter: u32, control: Control) -> [u8; 13]
     ensures { result ≡ nonce_of sender counter control.byte }
 {
     let mut nonce = [0u8; 13];
-    put(&mut nonce, 0, 8, sender);
-    put(&mut nonce, 8, 4, counter as u64);
+    put(&mut nonce, 0, &sender.to_le_bytes());
+    put(&mut nonce, 8, &counter.to_le_bytes());
     nonce[12] = control.byte;
     nonce
 }

@@ -5,39 +5,37 @@ ghost use Rattle.std.specs.Prelude.{◌≡◌};
 ghost use Rattle.fields.specs.Fields.{field_at};
 
 // A field's body lies between two places of the input.
-#[derive(Clone, Copy)]
+#[derive(Clone, Copy, Debug, PartialEq, Eq)]
 pub struct Field {
     pub tag: u8,
     pub from: usize,
     pub to: usize,
 }
 
-#[derive(Clone, Copy)]
-pub enum FieldRead {
-    Whole(Field),
-    Cut,
-    End,
-}
+// A field of which the input holds only a part.
+#[derive(Clone, Copy, Debug, PartialEq, Eq)]
+pub struct Cut;
 
-// The field at a place, any place at all.
-pub fn field_at(s: &[u8], at: usize) -> FieldRead
+// The field at a place, any place at all; none at the end of the input.
+#[tactic(auto, unfolding(crate::specs::Fields::field_at))]
+pub fn field_at(s: &[u8], at: usize) -> Result<Option<Field>, Cut>
     ensures { result ≡ field_at s.now at }
 {
     if s.len() <= at {
-        return FieldRead::End;
+        return Ok(None);
     }
     let left = s.len() - at;
     if left < 3 {
-        return FieldRead::Cut;
+        return Err(Cut);
     }
     let size = auxiliary_header::number_at(s, at + 1, 2) as usize;
     if left - 3 < size {
-        return FieldRead::Cut;
+        return Err(Cut);
     }
     let from = at + 3;
-    FieldRead::Whole(Field {
+    Ok(Some(Field {
         tag: s[at],
         from,
         to: from + size,
-    })
+    }))
 }

@@ -1,5 +1,5 @@
 -- Laws of the NWK header: its size, and that it reads the same whatever follows it. Assumes nothing.
-use Rattle.std.specs.Prelude.{◌≡◌, refl, Bool, List, [], ◌∷◌, ℕ, ◌+◌, ◌*◌, ◌≤◌, ◌<◌, length, take}
+use Rattle.std.specs.Prelude.{◌≡◌, refl, Bool, Ok, Err, List, [], ◌∷◌, ℕ, ◌+◌, ◌*◌, ◌%◌, ◌≤◌, ◌<◌, length, take}
 use Rattle.std.proofs.Common.{sym, ◌∙◌, not-suc-le-zero, le_of_suc-le-suc, arith, le-leb, get_or-take}
 use Rattle.std.proofs.Math.Path.{ap}
 use Rattle.std.proofs.Math.Bool.{true, false, cond}
@@ -7,8 +7,9 @@ use Rattle.std.proofs.lemmas.Bool.{lt-leb}
 use Rattle.std.proofs.Math.ListN.{get_or}
 use Rattle.std.proofs.Math.Seq.{take-take}
 use Rattle.laws.specs.Numbers.{value, field, bit}
-use Rattle.frame_header.specs.Nwk.{nwk_control, nwk_kind, nwk_fixed, relays_length, nwk_length, nwk_of}
-use Rattle.frame_header.specs.declared.network.NwkRead.TheVariants.{Whole, Cut}
+use Rattle.laws.specs.Rule.{same-below}
+use Rattle.frame_header.specs.Nwk.{nwk_control, nwk_kind_number, nwk_kind_numbered, nwk_kind, nwk_fixed, relays_length, nwk_length, nwk_of}
+use Rattle.answer.specs.declared.Refusal.TheVariants.{Cut}
 
 -- ---- the frame control, octet by octet
 
@@ -17,6 +18,10 @@ unfolding field value
 control-octets [] h = absurd (not-suc-le-zero h)
 control-octets (a ∷ []) h = absurd (not-suc-le-zero (le_of_suc-le-suc h))
 control-octets (a ∷ b ∷ s) h = omega arith
+
+pub kind-number : (control : ℕ) → nwk_kind_number (nwk_kind control) ≡ control % 4
+unfolding nwk_kind
+kind-number control = same-below (λ n. nwk_kind_number (nwk_kind_numbered n)) (λ n. n) 4 tt (control % 4) (omega arith)
 
 -- ---- sizes
 
@@ -38,12 +43,12 @@ relays-most s at control h = omega (arith, flagged-at-most (bit 10 control) (1 +
 -- ---- cut, or whole
 
 module _ (s : List ℕ) where
-  pub nwk-cut : length s < nwk_length s → nwk_of s ≡ Cut
+  pub nwk-cut : length s < nwk_length s → nwk_of s ≡ Err Cut
   unfolding nwk_of
   nwk-cut h = rw (lt-leb (nwk_length s) (length s) h)
 
   pub nwk-whole : nwk_length s ≤ length s
-      → nwk_of s ≡ Whole (record { len = nwk_length s; kind = nwk_kind (nwk_control s); secured = bit 9 (nwk_control s) })
+      → nwk_of s ≡ Ok (record { len = nwk_length s; kind = nwk_kind (nwk_control s); secured = bit 9 (nwk_control s) })
   unfolding nwk_of
   nwk-whole h = rw (le-leb (nwk_length s) (length s) h)
 

@@ -1,59 +1,72 @@
 // The APS header (ZB 2.2.5.1).
 ghost use Rattle.std.specs.Prelude.{◌≡◌};
-ghost use Rattle.frame_header.specs.Aps.{aps_kind, aps_delivery, is_command, is_secured, aps_taken, aps_length, aps_of};
+ghost use Rattle.frame_header.specs.Aps.{aps_kind_number, delivery_number, aps_kind, aps_delivery, is_command, is_secured, aps_taken, aps_length, aps_of};
 
 use crate::flags::is_set;
+use answer::Refusal;
 
 // Places of the flags (ZB 2.2.5.1.1).
 const SECURITY: u16 = 5;
 
 const EXTENDED_HEADER: u16 = 7;
 
-// Frame types and a delivery mode.
-const DATA: u8 = 0;
-
-const COMMAND: u8 = 1;
-
-const RESERVED: u8 = 1;
-
-const GROUP: u8 = 3;
-
+// The frame type (ZB 2.2.5.1.1.1): numbers 0 to 3.
 #[derive(Clone, Copy)]
+enum ApsKind {
+    Data,
+    Command,
+    Acknowledgement,
+    InterPan,
+}
+
+// The delivery mode (ZB 2.2.5.1.1.2): numbers 0 to 3.
+#[derive(Clone, Copy)]
+enum Delivery {
+    Unicast,
+    Reserved,
+    Broadcast,
+    Group,
+}
+
+#[derive(Clone, Copy, Debug, PartialEq, Eq)]
 pub struct ApsControl {
     pub byte: u8,
 }
 
-#[derive(Clone, Copy)]
+#[derive(Clone, Copy, Debug, PartialEq, Eq)]
 pub struct ApsHeader {
     pub len: usize,
     pub command: bool,
     pub secured: bool,
 }
 
-#[derive(Clone, Copy)]
-pub enum ApsRead {
-    Whole(ApsHeader),
-    NotTaken,
-    Cut,
-}
-
 impl ApsControl {
-    fn kind(self) -> u8
-        ensures { result ≡ aps_kind self.byte }
+    fn kind(self) -> ApsKind
+        ensures { aps_kind_number result ≡ aps_kind self.byte }
     {
-        self.byte & 0b0000_0011
+        match self.byte % 4 {
+            0 => ApsKind::Data,
+            1 => ApsKind::Command,
+            2 => ApsKind::Acknowledgement,
+            _ => ApsKind::InterPan,
+        }
     }
 
-    fn delivery(self) -> u8
-        ensures { result ≡ aps_delivery self.byte }
+    fn delivery(self) -> Delivery
+        ensures { delivery_number result ≡ aps_delivery self.byte }
     {
-        self.byte >> 2 & 0b0000_0011
+        match self.byte / 4 % 4 {
+            0 => Delivery::Unicast,
+            1 => Delivery::Reserved,
+            2 => Delivery::Broadcast,
+            _ => Delivery::Group,
+        }
     }
 
     pub fn command(self) -> bool
         ensures { result ≡ is_command self.byte }
     {
-        self.kind() == COMMAND
+        matches!(self.kind(), ApsKind::Command)
     }
 
     pub fn secured(self) -> bool
@@ -67,17 +80,14 @@ impl ApsControl {
     pub fn taken(self) -> bool
         ensures { result ≡ aps_taken self.byte }
     {
-        let kind = self.kind();
-        if 2 <= kind {
-            return false;
-        }
         if is_set(self.byte as u16, EXTENDED_HEADER) {
             return false;
         }
-        if kind == DATA {
-            return self.delivery() != RESERVED;
+        match self.kind() {
+            ApsKind::Data => !matches!(self.delivery(), Delivery::Reserved),
+            ApsKind::Command => true,
+            ApsKind::Acknowledgement | ApsKind::InterPan => false,
         }
-        true
     }
 
     // Frame control and counter; with data also endpoint or group, cluster, profile and source endpoint.
@@ -88,26 +98,27 @@ impl ApsControl {
         if self.command() {
             return 2;
         }
-        if self.delivery() == GROUP { 9 } else { 8 }
+        match self.delivery() {
+            Delivery::Group => 9,
+            Delivery::Unicast | Delivery::Reserved | Delivery::Broadcast => 8,
+        }
     }
 }
 
 #[tactic(auto, unfolding(crate::specs::Aps::aps_of))]
-pub fn aps(s: &[u8]) -> ApsRead
+pub fn aps(s: &[u8]) -> Result<ApsHeader, Refusal>
     ensures { result ≡ aps_of s.now }
 {
-    if s.len() == 0 {
-        return ApsRead::Cut;
-    }
-    let control = ApsControl { byte: s[0] };
+    let byte = s.first().copied().ok_or(Refusal::Cut)?;
+    let control = ApsControl { byte };
     if !control.taken() {
-        return ApsRead::NotTaken;
+        return Err(Refusal::Unsupported);
     }
     let len = control.length();
     if s.len() < len {
-        return ApsRead::Cut;
+        return Err(Refusal::Cut);
     }
-    ApsRead::Whole(ApsHeader {
+    Ok(ApsHeader {
         len,
         command: control.command(),
         secured: control.secured(),

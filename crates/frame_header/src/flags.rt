@@ -2,6 +2,7 @@
 ghost use Rattle.std.specs.Prelude.{◌≡◌, cond, ◌<◌};
 ghost use Rattle.laws.specs.Numbers.{bit};
 
+#[tactic(auto, using(std::proofs::lemmas::Nat::and_mask), unfolding(laws::specs::Numbers::bit))]
 pub(crate) fn is_set(bits: u16, place: u16) -> bool
     requires { place < 16 }
     ensures { result ≡ bit place bits }

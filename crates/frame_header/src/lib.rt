@@ -6,5 +6,5 @@ mod application;
 mod flags;
 mod network;
 
-pub use application::{ApsControl, ApsHeader, ApsRead, aps};
-pub use network::{NwkHeader, NwkRead, nwk};
+pub use application::{ApsControl, ApsHeader, aps};
+pub use network::{NwkHeader, NwkKind, nwk};

@@ -1,5 +1,5 @@
 -- `auxiliary_header::auxiliary::put_all` meets its contract. Assumes nothing.
-use mathlib.Core.Path.{◌≡◌}
+use mathlib.Core.Path.{◌≡◌, ap, ◌∙◌}
 use mathlib.Core.List.{List, ◌++◌, append_assoc}
 use Prim.Native.Nat.{ℕ, ◌+◌}
 use native.Mathlib.Numerals.{add-one}
@@ -10,7 +10,7 @@ use Rattle.laws.specs.Numbers.{low}
 use Rattle.laws.specs.NumberLaws.{low-length}
 use Rattle.auxiliary_header.specs.Auxiliary.{sender_length, sender_octets, number_octets, auxiliary_octets}
 use Rattle.auxiliary_header.proofs.AuxiliaryLaws.{sender-octets}
-use Rattle.auxiliary_header.proofs.Turns.{stored_next}
+use Rattle.auxiliary_header.proofs.Turns.{octets_4, stored_next}
 use Rattle.auxiliary_header.proofs.auxiliary.put_all.Goals as goal
 
 -- the control byte, and then three strings one after the other
@@ -40,4 +40,4 @@ returns c =
     let sender = c.put_sender in
     let put = c.put in
     stored a.out.now put.new.s sender.new.out c.put_number.new.out a.at a.control.byte a.counter a.sender a.number _
-    put.ensures sender.ensures c.sender_length.ensures c.put_number.ensures
+    (put.ensures ∙ ap (sets (set a.out.now a.at a.control.byte) (a.at + 1)) (c.to_le_bytes.ensures ∙ octets_4 a.counter)) sender.ensures c.sender_length.ensures c.put_number.ensures

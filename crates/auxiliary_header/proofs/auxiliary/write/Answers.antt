@@ -5,7 +5,7 @@ use Prim.Native.Nat.{ℕ, ◌+◌, ◌≤◌, ◌<◌}
 use native.Mathlib.Omega.{arith}
 use borrow.Author.Rules.{rules}
 use lib.ListN.{length}
-use Rattle.answer.specs.declared.Outcome.TheVariants.{Refused}
+use Rattle.std.specs.Prelude.{Err}
 use Rattle.answer.specs.declared.Refusal.TheVariants.{NoRoom}
 use Rattle.auxiliary_header.specs.Auxiliary.{auxiliary_length, auxiliary_octets}
 use Rattle.auxiliary_header.proofs.AuxiliaryLaws.{octets-length}
@@ -17,7 +17,7 @@ module _ (out : List ℕ) (at control counter sender number : ℕ) where
   abbrev octets : List ℕ
   octets = auxiliary_octets control counter sender number
 
-  refusal : length out < at + auxiliary_length control → (Refused NoRoom ≡ outcome_of out at octets) × (out ≡ written out at octets)
+  refusal : length out < at + auxiliary_length control → (Err NoRoom ≡ outcome_of out at octets) × (out ≡ written out at octets)
   refusal h =
       let short : length out < at + length octets = rw (octets-length control counter sender number) h in
       (sym (refused out at octets short), sym (unchanged out at octets short))
@@ -25,16 +25,10 @@ module _ (out : List ℕ) (at control counter sender number : ℕ) where
   room : at + auxiliary_length control ≤ length out → at + length octets ≤ length out
   room h = rw (octets-length control counter sender number) h
 
-pub returns-then-out-at : goal.returns-then-out-at
-returns-then-out-at c =
+pub returns-then-saturating_sub-auxiliary_length : goal.returns-then-saturating_sub-auxiliary_length
+returns-then-saturating_sub-auxiliary_length c =
     let a = c.args in
     let r = refusal a.out.now a.at a.control.byte a.counter a.sender a.number (omega arith) in
-    record { value = r.0; out_after = r.1 }
-
-pub returns-then-out-at-2 : goal.returns-then-out-at-2
-returns-then-out-at-2 c =
-    let a = c.args in
-    let r = refusal a.out.now a.at a.control.byte a.counter a.sender a.number (search rules) in
     record { value = r.0; out_after = r.1 }
 
 pub returns : goal.returns

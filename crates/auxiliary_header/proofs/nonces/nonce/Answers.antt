@@ -1,5 +1,5 @@
 -- `auxiliary_header::nonces::nonce` meets its contract. Assumes nothing.
-use mathlib.Core.Path.{◌≡◌, refl, ◌∙◌}
+use mathlib.Core.Path.{◌≡◌, refl, ap, ◌∙◌}
 use mathlib.Core.List.{List, [], ◌∷◌, ◌++◌, append_assoc}
 use Prim.Native.Nat.{ℕ, ◌+◌}
 use native.Mathlib.Omega.{arith}
@@ -8,7 +8,7 @@ use lib.Seq.{sets}
 use Rattle.laws.specs.Numbers.{low}
 use Rattle.laws.specs.NumberLaws.{low-length}
 use Rattle.auxiliary_header.specs.Nonce.{nonce_of}
-use Rattle.auxiliary_header.proofs.Turns.{stored_next, stored-whole}
+use Rattle.auxiliary_header.proofs.Turns.{octets_4, octets_8, stored_next, stored-whole}
 use Rattle.auxiliary_header.proofs.nonces.nonce.Goals as goal
 
 -- three strings one after the other
@@ -33,4 +33,5 @@ whole zeros first second sender counter control size e₁ e₂ =
 pub returns : goal.returns
 returns c =
     let a = c.args in
-    whole _ c.put.new.s c.put-2.new.s a.sender a.counter a.control.byte refl c.put.ensures c.put-2.ensures
+    whole _ c.put.new.s c.put-2.new.s a.sender a.counter a.control.byte refl (c.put.ensures ∙ ap (sets _ 0) (c.to_le_bytes.ensures ∙ octets_8 a.sender))
+    (c.put-2.ensures ∙ ap (sets c.put.new.s 8) (c.to_le_bytes-2.ensures ∙ octets_4 a.counter))

@@ -10,24 +10,23 @@ use Rattle.auxiliary_header.proofs.numbers.number_at.Goals as goal
 
 pub loop-i-init : goal.loop-i-init
 unfolding field value
-loop-i-init c = (search rules, rw (sub_self c.args.count), rw (sub_self c.args.count) (omega arith))
+loop-i-init c = (rw (sub_self c.args.count), rw (sub_self c.args.count) (omega arith))
 
 pub overflow_mul-number : goal.overflow_mul-number
 overflow_mul-number c =
-    omega (arith, below_last c.args.count c.loop-i.i c.loop-i.number (search rules) (search rules) (search rules))
+    omega (arith, below_last c.args.count c.loop-i.i c.loop-i.number (search rules) (search rules) c.loop-i.invariant.1)
 
 pub overflow_add-number-in-loop-i : goal.overflow_add-number-in-loop-i
 overflow_add-number-in-loop-i c =
     let a = c.args in
     let l = c.loop-i in
-    omega (arith, c.type_inv.s (a.at + (l.i - 1)), below_last a.count l.i l.number (search rules) (search rules) (search rules))
+    omega (arith, c.type_inv.s (a.at + (l.i - 1)), below_last a.count l.i l.number (search rules) (search rules) l.invariant.1)
 
 pub loop-i-preserved : goal.loop-i-preserved
 loop-i-preserved c =
     let a = c.args in
     let l = c.loop-i in
     let octet : get_or a.s.now (a.at + (l.i - 1)) 0 < 256 = omega (arith, c.type_inv.s (a.at + (l.i - 1))) in (
-      search rules,
-      field_back a.s.now a.at a.count l.i l.number (search rules) (search rules) (search rules) l.invariant.1,
-      back-small a.count l.i l.number _ (search rules) (search rules) l.invariant.2 octet,
+      field_back a.s.now a.at a.count l.i l.number (search rules) (search rules) (search rules) l.invariant.0,
+      back-small a.count l.i l.number _ (search rules) (search rules) l.invariant.1 octet,
     )

@@ -1,13 +1,13 @@
 -- `frame_header::network::nwk` meets its contract. Assumes nothing.
 use mathlib.Core.Path.{◌≡◌, sym, ap, ap₂, ◌∙◌}
 use mathlib.Core.List.{List}
-use Prim.Native.Nat.{ℕ, ◌+◌, ◌%◌, ◌<◌}
+use Prim.Native.Nat.{ℕ, ◌+◌, ◌<◌}
 use native.Mathlib.Omega.{arith}
 use lib.ListN.{get_or}
 use Rattle.laws.specs.Numbers.{bit}
-use Rattle.frame_header.specs.Nwk.{nwk_control, nwk_fixed, relays_length, nwk_length}
+use Rattle.frame_header.specs.Nwk.{nwk_control, nwk_kind, nwk_fixed, relays_length, nwk_length}
 use Rattle.frame_header.specs.NwkLaws.{fixed-most, relays-most, length-least, nwk-cut, nwk-whole}
-use Rattle.frame_header.specs.declared.network.NwkRead.TheVariants.{Whole}
+use Rattle.std.specs.Prelude.{Ok}
 use Rattle.frame_header.proofs.network.nwk.Goals as goal
 
 pub returns-then-s-lt8 : goal.returns-then-s-lt8
@@ -43,9 +43,9 @@ returns c =
     let s = c.args.s.now in
     let control : c.control_of-control.result ≡ nwk_control s = c.control_of-control.ensures in
     let len = length-is s _ _ _ c.control_of-control.ensures c.fixed_length-fixed.ensures c.relays_length.ensures in
-    (λ i. Whole (record {
+    (λ i. Ok (record {
       len = len i;
-      kind = (c.kind_of.ensures ∙ ap (λ (n : ℕ). n % 4) control) i;
+      kind = (c.kind_of.ensures ∙ ap nwk_kind control) i;
       secured = (c.is_set.ensures ∙ ap (bit 9) control) i;
     }))
     ∙ sym (nwk-whole s (omega (arith, len)))

@@ -1,9 +1,0 @@
--- `frame_header::flags::length_if` meets its contract. Assumes nothing.
-use mathlib.Core.Path.{sym, ◌∙◌}
-use Rattle.frame_header.proofs.flags.length_if.Goals as goal
-
-pub returns-then-is_set : goal.returns-then-is_set
-returns-then-is_set c = rw (sym c.is_set.ensures ∙ c.if-is_set.true)
-
-pub returns-else-is_set : goal.returns-else-is_set
-returns-else-is_set c = rw (sym c.is_set.ensures ∙ c.if-is_set.false)
