@@ -2,36 +2,39 @@
 ghost use Rattle.std.specs.Prelude.{◌≡◌, [], ◌∷◌, ◌<◌};
 ghost use Rattle.laws.specs.Parts.{listed};
 ghost use Rattle.tables.specs.Field.{sbox};
-ghost use Rattle.tables.specs.Rounds.{products, twice, IsRound};
+ghost use Rattle.tables.specs.Rounds.{products, twice};
 ghost use Rattle.aes.specs.Cipher.{sub_bytes, shift_rows, mix_column, mix_columns, add_round_key, cipher};
 ghost use Rattle.aes.specs.Schedule.{xor_word};
 ghost use Rattle.words.specs.Words.{bytes, byte_of, block_of};
 ghost use Rattle.aes.specs.Words.{key_bytes};
 
+use tables::RoundTable;
 use words::{State, block_of, joined, state_of, xored};
 
 // Four bytes of the entry for x, from byte i on: its column turned by as many rows.
-fn entry(table: &[u8; 2048], x: u32, i: usize) -> u32
-    requires round { IsRound table.now }
-    requires x_bound { (x < 256) × (i < 5) }
+fn entry(table: RoundTable, x: u32, i: usize) -> u32
+    requires { (x < 256) × (i < 5) }
     ensures { bytes result ≡ listed 4 i (twice (products (sbox x))) }
 {
     let at = 8 * (x as usize) + i;
-    joined(table[at], table[at + 1], table[at + 2], table[at + 3])
+    joined(
+        table.bytes[at],
+        table.bytes[at + 1],
+        table.bytes[at + 2],
+        table.bytes[at + 3],
+    )
 }
 
 // The substituted byte: every entry has it as its second.
-fn substituted(table: &[u8; 2048], x: u32) -> u8
-    requires round { IsRound table.now }
-    requires x_bound { x < 256 }
+fn substituted(table: RoundTable, x: u32) -> u8
+    requires { x < 256 }
     ensures { result ≡ sbox x }
 {
-    table[8 * (x as usize) + 1]
+    table.bytes[8 * (x as usize) + 1]
 }
 
 // A column of the next state, from the columns that ShiftRows takes its four bytes from.
-fn column(table: &[u8; 2048], a: u32, b: u32, c: u32, d: u32, key: u32) -> u32
-    requires { IsRound table.now }
+fn column(table: RoundTable, a: u32, b: u32, c: u32, d: u32, key: u32) -> u32
     ensures { bytes result ≡ xor_word (mix_column (sbox (byte_of a 0)) (sbox (byte_of b 1)) (sbox (byte_of c 2)) (sbox (byte_of d 3))) (bytes key) }
 {
     let p = entry(table, a % 256, 0);
@@ -42,8 +45,7 @@ fn column(table: &[u8; 2048], a: u32, b: u32, c: u32, d: u32, key: u32) -> u32
 }
 
 // The same in the last round, which has no MixColumns.
-fn last_column(table: &[u8; 2048], a: u32, b: u32, c: u32, d: u32, key: u32) -> u32
-    requires { IsRound table.now }
+fn last_column(table: RoundTable, a: u32, b: u32, c: u32, d: u32, key: u32) -> u32
     ensures { bytes result ≡ xor_word (sbox (byte_of a 0) ∷ sbox (byte_of b 1) ∷ sbox (byte_of c 2) ∷ sbox (byte_of d 3) ∷ []) (bytes key) }
 {
     xored(
@@ -57,66 +59,74 @@ fn last_column(table: &[u8; 2048], a: u32, b: u32, c: u32, d: u32, key: u32) -> 
     )
 }
 
-// Round n, of those that have MixColumns.
-fn round(table: &[u8; 2048], keys: &[u32; 44], s: State, n: usize) -> State
-    requires round { IsRound table.now }
-    requires n_bound { n < 11 }
-    ensures { block_of result ≡ add_round_key (mix_columns (shift_rows (sub_bytes (block_of s)))) (key_bytes keys.now) n }
-{
-    State {
-        a: column(table, s.a, s.b, s.c, s.d, keys[4 * n]),
-        b: column(table, s.b, s.c, s.d, s.a, keys[4 * n + 1]),
-        c: column(table, s.c, s.d, s.a, s.b, keys[4 * n + 2]),
-        d: column(table, s.d, s.a, s.b, s.c, keys[4 * n + 3]),
-    }
+// What each round works with.
+#[derive(Clone, Copy)]
+struct KeyedRounds<'a> {
+    table: RoundTable<'a>,
+    keys: &'a [u32; 44],
 }
 
-// A state, and the first round key added to it.
-fn begun(keys: &[u32; 44], s: State) -> State
-    ensures { block_of result ≡ add_round_key (block_of s) (key_bytes keys.now) 0 }
-{
-    State {
-        a: xored(s.a, keys[0]),
-        b: xored(s.b, keys[1]),
-        c: xored(s.c, keys[2]),
-        d: xored(s.d, keys[3]),
+impl KeyedRounds<'_> {
+    // A state, and the first round key added to it.
+    fn begun(self, s: State) -> State
+        ensures { block_of result ≡ add_round_key (block_of s) (key_bytes self.entry.keys.now) 0 }
+    {
+        State {
+            a: xored(s.a, self.keys[0]),
+            b: xored(s.b, self.keys[1]),
+            c: xored(s.c, self.keys[2]),
+            d: xored(s.d, self.keys[3]),
+        }
     }
-}
 
-// The last round.
-fn ended(table: &[u8; 2048], keys: &[u32; 44], s: State) -> State
-    requires { IsRound table.now }
-    ensures { block_of result ≡ add_round_key (shift_rows (sub_bytes (block_of s))) (key_bytes keys.now) 10 }
-{
-    State {
-        a: last_column(table, s.a, s.b, s.c, s.d, keys[40]),
-        b: last_column(table, s.b, s.c, s.d, s.a, keys[41]),
-        c: last_column(table, s.c, s.d, s.a, s.b, keys[42]),
-        d: last_column(table, s.d, s.a, s.b, s.c, keys[43]),
+    // Round n, of those that have MixColumns.
+    fn round(self, s: State, n: usize) -> State
+        requires { n < 11 }
+        ensures { block_of result ≡ add_round_key (mix_columns (shift_rows (sub_bytes (block_of s)))) (key_bytes self.entry.keys.now) n }
+    {
+        let table = self.table;
+        State {
+            a: column(table, s.a, s.b, s.c, s.d, self.keys[4 * n]),
+            b: column(table, s.b, s.c, s.d, s.a, self.keys[4 * n + 1]),
+            c: column(table, s.c, s.d, s.a, s.b, self.keys[4 * n + 2]),
+            d: column(table, s.d, s.a, s.b, s.c, self.keys[4 * n + 3]),
+        }
+    }
+
+    // The last round.
+    fn ended(self, s: State) -> State
+        ensures { block_of result ≡ add_round_key (shift_rows (sub_bytes (block_of s))) (key_bytes self.entry.keys.now) 10 }
+    {
+        let table = self.table;
+        State {
+            a: last_column(table, s.a, s.b, s.c, s.d, self.keys[40]),
+            b: last_column(table, s.b, s.c, s.d, s.a, self.keys[41]),
+            c: last_column(table, s.c, s.d, s.a, s.b, self.keys[42]),
+            d: last_column(table, s.d, s.a, s.b, s.c, self.keys[43]),
+        }
     }
 }
 
 // One block as four columns, with the round table lent. The nine rounds are written out: a loop is slower.
-pub fn encipher_state(table: &[u8; 2048], keys: &[u32; 44], s: State) -> State
-    requires { IsRound table.now }
+pub fn encipher_state(table: RoundTable, keys: &[u32; 44], s: State) -> State
     ensures { block_of result ≡ cipher (key_bytes keys.now) (block_of s) }
 {
-    let s0 = begun(keys, s);
-    let s1 = round(table, keys, s0, 1);
-    let s2 = round(table, keys, s1, 2);
-    let s3 = round(table, keys, s2, 3);
-    let s4 = round(table, keys, s3, 4);
-    let s5 = round(table, keys, s4, 5);
-    let s6 = round(table, keys, s5, 6);
-    let s7 = round(table, keys, s6, 7);
-    let s8 = round(table, keys, s7, 8);
-    let s9 = round(table, keys, s8, 9);
-    ended(table, keys, s9)
+    let rounds = KeyedRounds { table, keys };
+    let s0 = rounds.begun(s);
+    let s1 = rounds.round(s0, 1);
+    let s2 = rounds.round(s1, 2);
+    let s3 = rounds.round(s2, 3);
+    let s4 = rounds.round(s3, 4);
+    let s5 = rounds.round(s4, 5);
+    let s6 = rounds.round(s5, 6);
+    let s7 = rounds.round(s6, 7);
+    let s8 = rounds.round(s7, 8);
+    let s9 = rounds.round(s8, 9);
+    rounds.ended(s9)
 }
 
 // One block as sixteen bytes.
-pub fn encipher(table: &[u8; 2048], keys: &[u32; 44], block: [u8; 16]) -> [u8; 16]
-    requires { IsRound table.now }
+pub fn encipher(table: RoundTable, keys: &[u32; 44], block: [u8; 16]) -> [u8; 16]
     ensures { result ≡ cipher (key_bytes keys.now) block }
 {
     block_of(encipher_state(table, keys, state_of(block)))
@@ -126,6 +136,5 @@ pub fn encipher(table: &[u8; 2048], keys: &[u32; 44], block: [u8; 16]) -> [u8; 1
 pub fn encrypt(keys: &[u32; 44], block: [u8; 16]) -> [u8; 16]
     ensures { result ≡ cipher (key_bytes keys.now) block }
 {
-    let table = tables::ROUND;
-    encipher(&table, keys, block)
+    encipher(tables::round_table(), keys, block)
 }

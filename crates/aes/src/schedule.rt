@@ -1,11 +1,11 @@
 // FIPS 197, 5.2: key expansion.
 ghost use Rattle.std.specs.Prelude.{◌≡◌, ◌++◌, ◌+◌, ◌*◌, ◌<◌, ◌≤◌, length};
 ghost use Rattle.tables.specs.Field.{sbox, round_constant};
-ghost use Rattle.tables.specs.Rounds.{IsSubstitution};
 ghost use Rattle.aes.specs.Schedule.{xor_word, rot_word, sub_word, rcon, key_expansion};
 ghost use Rattle.words.specs.Words.{bytes, block_of};
 ghost use Rattle.aes.specs.Words.{word_bytes, key_bytes};
 
+use tables::SubstitutionTable;
 use words::{State, joined, state_of, xored};
 
 fn round_constant(n: usize) -> u8
@@ -15,19 +15,17 @@ fn round_constant(n: usize) -> u8
     tables::ROUND_CONSTANTS[n]
 }
 
-fn substituted(table: &[u8; 256], x: u32) -> u8
-    requires substitution { IsSubstitution table.now }
-    requires x_bound { x < 256 }
+fn substituted(table: SubstitutionTable, x: u32) -> u8
+    requires { x < 256 }
     ensures { result ≡ sbox x }
 {
-    table[x as usize]
+    table.bytes[x as usize]
 }
 
 // What a round key's first word is XORed with, for the last word q of the round key before it: rotated, substituted, and round
 // constant n added.
-fn turned(table: &[u8; 256], q: u32, n: usize) -> u32
-    requires substitution { IsSubstitution table.now }
-    requires n_bound { n < 10 }
+fn turned(table: SubstitutionTable, q: u32, n: usize) -> u32
+    requires { n < 10 }
     ensures { bytes result ≡ xor_word (sub_word (rot_word (bytes q))) (rcon (n + 1)) }
 {
     joined(
@@ -39,13 +37,12 @@ fn turned(table: &[u8; 256], q: u32, n: usize) -> u32
 }
 
 // Round key n + 1, from round key n.
-fn next_key(table: &[u8; 256], k: State, n: usize) -> State
-    requires substitution { IsSubstitution table.now }
-    requires n_bound { n < 10 }
-    ensures { (bytes result.a ≡ xor_word (bytes k.a) (xor_word (sub_word (rot_word (bytes k.d))) (rcon (n + 1))))
-        × (bytes result.b ≡ xor_word (bytes k.b) (bytes result.a))
-        × (bytes result.c ≡ xor_word (bytes k.c) (bytes result.b))
-        × (bytes result.d ≡ xor_word (bytes k.d) (bytes result.c)) }
+fn next_key(table: SubstitutionTable, k: State, n: usize) -> State
+    requires { n < 10 }
+    ensures a { bytes result.a ≡ xor_word (bytes k.a) (xor_word (sub_word (rot_word (bytes k.d))) (rcon (n + 1))) }
+    ensures b { bytes result.b ≡ xor_word (bytes k.b) (bytes result.a) }
+    ensures c { bytes result.c ≡ xor_word (bytes k.c) (bytes result.b) }
+    ensures d { bytes result.d ≡ xor_word (bytes k.d) (bytes result.c) }
 {
     let a = xored(k.a, turned(table, k.d, n));
     let b = xored(k.b, a);
@@ -67,8 +64,7 @@ fn put(w: &mut [u32], n: usize, k: State)
 
 // The eleven round keys, one after the other, with the substitution table lent. The last one is kept beside the array: reading
 // back what was just stored is slower.
-pub fn expand_with(table: &[u8; 256], key: [u8; 16]) -> [u32; 44]
-    requires { IsSubstitution table.now }
+pub fn expand_with(table: SubstitutionTable, key: [u8; 16]) -> [u32; 44]
     ensures { key_bytes result ≡ key_expansion key }
 {
     let mut w = [0u32; 44];
@@ -85,6 +81,5 @@ pub fn expand_with(table: &[u8; 256], key: [u8; 16]) -> [u32; 44]
 pub fn expand(key: [u8; 16]) -> [u32; 44]
     ensures { key_bytes result ≡ key_expansion key }
 {
-    let table = tables::SUBSTITUTION;
-    expand_with(&table, key)
+    expand_with(tables::substitution_table(), key)
 }

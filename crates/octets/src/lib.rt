@@ -1,25 +1,16 @@
 // Strings of octets: XOR, whether two are the same, and copying.
 #![tactic(auto)]
 
-ghost use Rattle.std.specs.Prelude.{◌≡◌, ◌≤◌, ◌++◌, min, length, drop};
+ghost use Rattle.std.specs.Prelude.{◌≡◌, ◌≤◌, ◌++◌, length, drop};
 ghost use Rattle.laws.specs.Octets.{◌⊕◌, same};
-
-// The smaller of two lengths.
-pub fn least(a: usize, b: usize) -> usize
-    ensures { result ≡ min a b }
-{
-    if a < b { a } else { b }
-}
 
 // src XORed into dst from the front, as far as both go.
 pub fn xor_into(dst: &mut [u8], src: &[u8])
     ensures { dst.new ≡ dst.old ⊕ src.now }
 {
-    let n = least(dst.len(), src.len());
-    let mut j = 0;
-    while j < n {
-        dst[j] = dst[j] ^ src[j];
-        j += 1;
+    let n = dst.len().min(src.len());
+    for j in 0..n {
+        dst[j] ^= src[j];
     }
 }
 
@@ -30,11 +21,9 @@ pub fn same(a: &[u8], b: &[u8]) -> bool
     if a.len() != b.len() {
         return false;
     }
-    let mut d: u8 = 0;
-    let mut j = 0;
-    while j < a.len() {
-        d = d | (a[j] ^ b[j]);
-        j += 1;
+    let mut d = 0;
+    for (x, y) in a.iter().zip(b) {
+        d |= x ^ y;
     }
     d == 0
 }

@@ -1,10 +1,10 @@
-// The constant tables, side by side. A constant that a function names is laid on its stack at each call: what needs a table
-// often is lent it by `&`, from one place.
+// The constant tables, side by side. The two of the cipher are lent from where they lie, since a table that a function names by value
+// is laid on its stack at each call.
 #![tactic(auto)]
 
 ghost use Rattle.std.specs.Prelude.{◌≡◌, ◌%◌, get_or};
 ghost use Rattle.tables.specs.Field.{sbox};
-ghost use Rattle.tables.specs.Rounds.{products, twice};
+ghost use Rattle.tables.specs.Rounds.{IsRound, IsSubstitution, products, twice};
 ghost use Rattle.tables.specs.Levels.{tag_length};
 
 mod round;
@@ -12,7 +12,7 @@ mod round;
 pub use round::ROUND;
 
 // FIPS 197, 5.1.1: the substitution table.
-pub const SUBSTITUTION: [u8; 256] = [
+pub static SUBSTITUTION: [u8; 256] = [
     0x63, 0x7c, 0x77, 0x7b, 0xf2, 0x6b, 0x6f, 0xc5, 0x30, 0x01, 0x67, 0x2b, 0xfe, 0xd7, 0xab, 0x76,
     0xca, 0x82, 0xc9, 0x7d, 0xfa, 0x59, 0x47, 0xf0, 0xad, 0xd4, 0xa2, 0xaf, 0x9c, 0xa4, 0x72, 0xc0,
     0xb7, 0xfd, 0x93, 0x26, 0x36, 0x3f, 0xf7, 0xcc, 0x34, 0xa5, 0xe5, 0xf1, 0x71, 0xd8, 0x31, 0x15,
@@ -36,6 +36,44 @@ pub const ROUND_CONSTANTS: [u8; 10] = [0x01, 0x02, 0x04, 0x08, 0x10, 0x20, 0x40,
 
 // ZB 4.5.1.1.1: the tag's length in bytes at each security level.
 pub const TAG_LENGTHS: [u8; 8] = [0, 4, 8, 16, 0, 4, 8, 16];
+
+// A lent table of a round's columns: each of its entries has the rule.
+#[derive(Clone, Copy)]
+pub struct RoundTable<'a> {
+    pub bytes: &'a [u8; 2048],
+    ghost ruled: { IsRound bytes.now },
+}
+
+// A lent substitution table: each of its entries has the rule.
+#[derive(Clone, Copy)]
+pub struct SubstitutionTable<'a> {
+    pub bytes: &'a [u8; 256],
+    ghost ruled: { IsSubstitution bytes.now },
+}
+
+// The two tables of the cipher.
+#[derive(Clone, Copy)]
+pub struct CipherTables<'a> {
+    pub round: RoundTable<'a>,
+    pub substitution: SubstitutionTable<'a>,
+}
+
+pub fn round_table() -> RoundTable<'static> {
+    RoundTable { bytes: &ROUND }
+}
+
+pub fn substitution_table() -> SubstitutionTable<'static> {
+    SubstitutionTable {
+        bytes: &SUBSTITUTION,
+    }
+}
+
+pub fn cipher_tables() -> CipherTables<'static> {
+    CipherTables {
+        round: round_table(),
+        substitution: substitution_table(),
+    }
+}
 
 // One entry of each table, by its rule.
 pub fn substituted(x: u8) -> u8

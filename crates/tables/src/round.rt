@@ -1,7 +1,7 @@
 // The round table. Eight bytes for a byte x: the column 2 S(x), S(x), S(x), 3 S(x) of MixColumns, and the same once more, so that
 // four bytes from byte 0, 3, 2 or 1 on are the column turned by 0, 1, 2 or 3 rows. Bytes, since a table of larger numbers is laid
 // on the stack more slowly. Each x is named beside the first of its bytes.
-pub const ROUND: [u8; 2048] = [
+pub static ROUND: [u8; 2048] = [
     0xc6, // x = 0x00
     0x63, 0x63, 0xa5, 0xc6, 0x63, 0x63, 0xa5, 0xf8, // x = 0x01
     0x7c, 0x7c, 0x84, 0xf8, 0x7c, 0x7c, 0x84, 0xee, // x = 0x02

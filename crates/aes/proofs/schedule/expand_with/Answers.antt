@@ -22,7 +22,7 @@ loop-n-preserved c =
     let p = c.put in
     let k = c.next_key-k in
     let e : 4 * (l.n + 1) ≡ 4 * l.n + 4 = omega arith in
-    let s = key_more (block_of k₀) (word_bytes l.w (4 * l.n)) l.n _ _ _ _ _ _ _ _ (word_bytes-length l.w (4 * l.n)) l.invariant.2 k.ensures.0 k.ensures.1 k.ensures.2 k.ensures.3 in (
+    let s = key_more (block_of k₀) (word_bytes l.w (4 * l.n)) l.n _ _ _ _ _ _ _ _ (word_bytes-length l.w (4 * l.n)) l.invariant.2 k.ensures.a k.ensures.b k.ensures.c k.ensures.d in (
       search rules,
       p.auto.w ∙ l.invariant.1,
       rw e (ap (λ (x : List ℕ). x ++ block_of k.result) p.ensures ∙ s),

@@ -5,12 +5,18 @@ use Rattle.words.specs.Words.{bytes}
 use Rattle.aes.specs.Schedule.{xor_word}
 use Rattle.aes.proofs.schedule.next_key.Goals as goal
 
-pub returns : goal.returns
+pub returns-clause-a : goal.returns-clause-a
 unfolding ◌⊕◌
-returns c =
-    let k = c.args.k in (
-      c.xored-a.ensures ∙ ap (xor_word (bytes k.a)) c.turned.ensures,
-      c.xored-b.ensures,
-      c.xored-c.ensures,
-      c.xored-d.ensures,
-    )
+returns-clause-a c = c.xored-a.ensures ∙ ap (xor_word (bytes c.args.k.a)) c.turned.ensures
+
+pub returns-clause-b : goal.returns-clause-b
+unfolding ◌⊕◌
+returns-clause-b c = c.xored-b.ensures
+
+pub returns-clause-c : goal.returns-clause-c
+unfolding ◌⊕◌
+returns-clause-c c = c.xored-c.ensures
+
+pub returns-clause-d : goal.returns-clause-d
+unfolding ◌⊕◌
+returns-clause-d c = c.xored-d.ensures

@@ -1,8 +1,8 @@
--- `aes::rounds::ended` meets its contract. Assumes nothing.
+-- `KeyedRounds::ended` meets its contract. Assumes nothing.
 use mathlib.Core.List.{◌++◌}
 use Rattle.aes.specs.Cipher.{sub_bytes, shift_rows, add_round_key}
 use Rattle.aes.specs.Words.{key_bytes}
-use Rattle.aes.proofs.rounds.ended.Goals as goal
+use Rattle.aes.proofs.rounds.KeyedRounds.ended.Goals as goal
 
 pub returns : goal.returns
 unfolding sub_bytes shift_rows add_round_key key_bytes

@@ -1,4 +1,4 @@
--- `aes::rounds::round` meets its contract. Assumes nothing.
+-- `KeyedRounds::round` meets its contract. Assumes nothing.
 use mathlib.Core.Path.{sym, ap, ◌∙◌}
 use Prim.Native.Nat.{ℕ, ◌+◌, ◌*◌}
 use mathlib.Core.List.{List, ◌++◌}
@@ -10,7 +10,7 @@ use Rattle.aes.specs.Schedule.{xor_word, word_at}
 use Rattle.aes.specs.Words.{key_bytes}
 use Rattle.aes.proofs.RoundKeys.{key-at}
 use native.Mathlib.Nat.{add-zero}
-use Rattle.aes.proofs.rounds.round.Goals as goal
+use Rattle.aes.proofs.rounds.KeyedRounds.round.Goals as goal
 
 -- the new column that is made of columns a, b, c and d
 abbrev mixed : ℕ → ℕ → ℕ → ℕ → List ℕ
@@ -20,7 +20,7 @@ pub returns : goal.returns
 unfolding sub_bytes shift_rows mix_columns add_round_key
 returns c =
     let a = c.args in
-    let w = a.keys.now in
+    let w = a.self.keys.now in
     let n = 4 * a.n in
     let k0 = sym (key-at w n (omega arith)) ∙ ap (word_at (key_bytes w)) (sym (add-zero n)) in
     let e0 = c.column.ensures ∙ ap (xor_word (mixed a.s.a a.s.b a.s.c a.s.d)) k0 in

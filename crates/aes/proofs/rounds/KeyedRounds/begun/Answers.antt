@@ -1,9 +1,9 @@
--- `aes::rounds::begun` meets its contract. Assumes nothing.
+-- `KeyedRounds::begun` meets its contract. Assumes nothing.
 use mathlib.Core.List.{◌++◌}
 use Rattle.laws.specs.Octets.{◌⊕◌}
 use Rattle.aes.specs.Cipher.{add_round_key}
 use Rattle.aes.specs.Words.{key_bytes}
-use Rattle.aes.proofs.rounds.begun.Goals as goal
+use Rattle.aes.proofs.rounds.KeyedRounds.begun.Goals as goal
 
 pub returns : goal.returns
 unfolding ◌⊕◌ add_round_key key_bytes
