@@ -3,134 +3,88 @@
 // program only reads and writes. Where standard error is a terminal it shows there how far it is.
 #![tactic(auto)]
 
-use answer::Outcome;
-use mmo::Hashing;
-use std::io::{IsTerminal, Read, Write};
+use answer::Refusal;
+use std::fmt;
+use std::io::{self, IsTerminal, Read, Write};
 
 // More turns than this no input has: each takes a byte, and one byte past the limit ends it.
 const TURNS: usize = 536870913;
 
-// How a turn ended.
+// Why there is no value.
 #[derive(Clone, Copy)]
-enum Came {
-    More,
-    End,
+enum NoValue {
     Long,
     Unread,
 }
 
-#[derive(Clone, Copy)]
-struct Taken {
-    came: Came,
-    state: Hashing,
-}
-
-// What came, added to the state. A read of nothing is the end of the input.
-fn added(state: Hashing, part: &[u8]) -> Taken {
-    if part.is_empty() {
-        return Taken {
-            came: Came::End,
-            state,
-        };
-    }
-    let added = mmo::hash_add(state, part);
-    let state = added.state;
-    match added.outcome {
-        Outcome::Done => Taken {
-            came: Came::More,
-            state,
-        },
-        Outcome::Refused(_) => Taken {
-            came: Came::Long,
-            state,
-        },
+impl From<Refusal> for NoValue {
+    fn from(_refusal: Refusal) -> NoValue {
+        NoValue::Long
     }
 }
 
-// One read, and what came added to the state.
-fn turn(rt: &HostRuntime, state: Hashing) -> Taken {
-    let mut part = [0u8; 4096];
-    match rt.stdin().read(&mut part) {
-        Ok(n) => added(state, &part[..n]),
-        Err(_) => Taken {
-            came: Came::Unread,
-            state,
-        },
+impl From<io::Error> for NoValue {
+    fn from(_error: io::Error) -> NoValue {
+        NoValue::Unread
     }
 }
 
-// Writing that fails is not told here: the script takes what is no whole value for a failure.
-fn print(rt: &HostRuntime, text: &str) {
-    let printed = rt.stdout().write_all(text.as_bytes());
-    printed.is_ok();
+impl fmt::Display for NoValue {
+    fn fmt<W: fmt::Write>(&self, f: &mut fmt::Formatter<W>) -> fmt::Result {
+        match self {
+            NoValue::Long => write!(f, "long"),
+            NoValue::Unread => write!(f, "unread"),
+        }
+    }
 }
 
-fn say(rt: &HostRuntime, text: &str) {
-    let said = rt.stderr().write_all(text.as_bytes());
-    said.is_ok();
-}
-
-// How far it is, for each four megabytes.
+// How far it is, for each four megabytes. What cannot be shown is lost.
 fn show(rt: &HostRuntime, before: u32, total: u32) {
     if before / 4000000 == total / 4000000 {
         return;
     }
     let megabytes = total / 1000000;
-    let said = eprint!(rt; "\r{megabytes} MB ");
-    said.is_ok();
+    let shown = eprint!(rt; "\r{megabytes} MB ");
+    shown.is_ok();
 }
 
-fn print_octet(rt: &HostRuntime, x: u8) {
-    let printed = print!(rt; "{x:02x}");
-    printed.is_ok();
-}
-
-fn print_value(rt: &HostRuntime, value: &[u8]) {
-    let mut i = 0;
-    while i < value.len() {
-        print_octet(rt, value[i]);
-        i += 1;
-    }
-}
-
-fn print_end(rt: &HostRuntime, state: Hashing) {
-    let digest = mmo::hash_finish(state);
-    let outcome = digest.outcome;
-    let value = digest.value;
-    match outcome {
-        Outcome::Done => print_value(rt, &value),
-        Outcome::Refused(_) => print(rt, "long"),
-    }
-}
-
-// Reads to the end, and prints.
-fn follow(rt: &HostRuntime, shows: bool) {
+// The value of all that is read, part after part. A read of nothing is the end of the input.
+fn hash_input(rt: &HostRuntime, shows: bool) -> Result<[u8; 16], NoValue> {
     let mut state = mmo::hash_start();
-    let mut left = TURNS;
-    while 0 < left {
-        let before = state.total;
-        let taken = turn(rt, state);
-        let came = taken.came;
-        let next = taken.state;
-        match came {
-            Came::More => {}
-            Came::End => return print_end(rt, next),
-            Came::Long => return print(rt, "long"),
-            Came::Unread => return print(rt, "unread"),
+    let mut part = [0u8; 4096];
+    for _ in 0..TURNS {
+        let n = rt.stdin().read(&mut part)?;
+        if n == 0 {
+            break;
         }
+        let next = mmo::hash_add(state, &part[..n])?;
         if shows {
-            show(rt, before, next.total);
+            show(rt, state.total, next.total);
         }
         state = next;
-        left -= 1;
     }
+    Ok(mmo::hash_finish(state)?)
 }
 
+fn print_value(rt: &HostRuntime, value: &[u8]) -> io::Result<()> {
+    for octet in value {
+        print!(rt; "{octet:02x}")?;
+    }
+    Ok(())
+}
+
+// Writing that fails is not told here: the script takes what is no whole value for a failure.
 fn main(rt: HostRuntime) {
     let shows = rt.stderr().is_terminal();
-    follow(&rt, shows);
+    let printed = match hash_input(&rt, shows) {
+        Ok(value) => print_value(&rt, &value),
+        Err(why) => print!(rt; "{why}"),
+    };
+    printed.is_ok();
     if shows {
-        say(&rt, "\r        \r");
+        let cleared = rt.stderr().write_all(b"\r        \r");
+        cleared.is_ok();
     }
-    print(&rt, "\n");
+    let ended = rt.stdout().write_all(b"\n");
+    ended.is_ok();
 }

@@ -11,8 +11,7 @@ use Rattle.control.specs.Control.{sent, has_sender, has_number}
 use Rattle.control.specs.declared.KeyIdentifier.TheVariants.{Network}
 use Rattle.auxiliary_header.specs.Auxiliary.{auxiliary_octets}
 use Rattle.auxiliary_header.proofs.AuxiliaryLaws.{octets-length}
-use Rattle.nib.specs.declared.keys.KeyFound.{KeyFound}
-use Rattle.nib.specs.Keys.{key_found}
+use Rattle.nib.specs.Keys.{key_under}
 use Rattle.protection.specs.Protection.{secured_octets}
 use Rattle.auxiliary_header.specs.Written.{written}
 use Rattle.auxiliary_header.specs.WrittenLaws.{put}
@@ -83,14 +82,14 @@ module _ (key hs plain out : List ℕ) (own counter header : ℕ) (whole : heade
       sealed ∙ rw (front, rest-is, take_at text past count (length-drop header plain), past_is)
 
 -- under the active key: x is the buffer with all laid in it, y after sealing
-module _ (s : Nwk) (counter : ℕ) (found : KeyFound) (plain out x y : List ℕ) (header : ℕ) (is_found : found ≡ key_found s.keys s.active) (whole : header ≤ length plain)
+module _ (s : Nwk) (counter : ℕ) (key plain out x y : List ℕ) (header : ℕ) (is_key : key ≡ key_under s.keys s.active) (whole : header ≤ length plain)
     (is-laid : x ≡ (nwk_headers s counter plain header ++ drop header plain) ++ drop (length plain + 14) out)
-    (is-sealed : y ≡ secured_octets found.row.key s.own counter header (take (header + 14) x) (take (length plain - header) (drop (header + 14) x)) ++ drop (header + 14 + (length plain - header) + 4) x) where
+    (is-sealed : y ≡ secured_octets key s.own counter header (take (header + 14) x) (take (length plain - header) (drop (header + 14) x)) ++ drop (header + 14 + (length plain - header) + 4) x) where
   headers-size : length (nwk_headers s counter plain header) ≡ header + 14
   headers-size = rw (length-append, length-take-le header plain whole, auxiliary-size)
 
   pub finished : y ≡ nwk_on_air s counter plain header ++ drop (length plain + nwk_added) out
   unfolding nwk_on_air
   finished =
-      sealed-as-laid found.row.key (nwk_headers s counter plain header) plain out s.own counter header whole headers-size x y is-laid is-sealed
-      ∙ ap (λ (f : KeyFound). secured_octets f.row.key s.own counter header (nwk_headers s counter plain header) (drop header plain) ++ drop (length plain + nwk_added) out) is_found
+      sealed-as-laid key (nwk_headers s counter plain header) plain out s.own counter header whole headers-size x y is-laid is-sealed
+      ∙ ap (λ (k : List ℕ). secured_octets k s.own counter header (nwk_headers s counter plain header) (drop header plain) ++ drop (length plain + nwk_added) out) is_key

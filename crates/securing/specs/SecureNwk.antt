@@ -1,16 +1,14 @@
 -- Securing NWK (document 01, 'Order of checks'), from a plain frame to an output buffer.
-use Rattle.std.specs.Prelude.{Err, Ok, is_some}
-use Rattle.std.specs.Prelude.{cond, not, ◌||◌, List, ◌++◌, ℕ, ◌+◌, eqb, leb, ltb, length, take, drop}
+use Rattle.std.specs.Prelude.{cond, not, ◌||◌, List, ◌++◌, ℕ, ◌+◌, eqb, leb, ltb, length, take, drop, is_some, Result, Ok, Err}
 use Rattle.answer.specs.Numbers.{Answer}
 use Rattle.answer.specs.declared.Accepted.TheVariants.{Done}
 use Rattle.answer.specs.declared.Refusal.{Refusal}
-use Rattle.answer.specs.declared.Refusal.TheVariants.{Unsupported, Cut, NoNetworkKey, CounterExhausted, NoRoom}
+use Rattle.answer.specs.declared.Refusal.TheVariants.{Unsupported, NoNetworkKey, CounterExhausted, NoRoom}
 use Rattle.control.specs.Control.{sent}
 use Rattle.control.specs.declared.KeyIdentifier.TheVariants.{Network}
 use Rattle.auxiliary_header.specs.Auxiliary.{auxiliary_octets}
-use Rattle.frame_header.specs.declared.network.NwkRead.{NwkRead}
-use Rattle.frame_header.specs.declared.network.NwkRead.TheVariants as nwk
-use Rattle.frame_header.specs.Nwk.{nwk_of}
+use Rattle.frame_header.specs.declared.network.NwkHeader.{NwkHeader}
+use Rattle.frame_header.specs.Nwk.{nwk_kind_number, nwk_of}
 use Rattle.nib.specs.declared.outgoing.Outgoing.{Outgoing}
 use Rattle.nib.specs.Keys.{key_found, key_under}
 use Rattle.nib.specs.Sending.{may_use}
@@ -49,10 +47,10 @@ nwk_done s o plain out header = record {
 }
 
 -- Header cut: 2. Frame type 2 or 3, or security bit clear: 7. No key row of the active number: 40. Outgoing counter 2^32-1: 6. Too little room: 8.
-abbrev pub nwk_framed : Nwk → Outgoing → List ℕ → List ℕ → NwkRead → Secured
-nwk_framed s o plain out nwk.Cut = not_secured Cut out o
-nwk_framed s o plain out (nwk.Whole h) =
-    cond (leb 2 h.kind || not h.secured) (not_secured Unsupported out o)
+abbrev pub nwk_framed : Nwk → Outgoing → List ℕ → List ℕ → Result NwkHeader Refusal → Secured
+nwk_framed s o plain out (Err why) = not_secured why out o
+nwk_framed s o plain out (Ok h) =
+    cond (leb 2 (nwk_kind_number h.kind) || not h.secured) (not_secured Unsupported out o)
     (cond (not (is_some (key_found s.keys s.active))) (not_secured NoNetworkKey out o)
     (cond (not (may_use o)) (not_secured CounterExhausted out o)
     (cond (ltb (length out) (length plain + nwk_added)) (not_secured NoRoom out o)

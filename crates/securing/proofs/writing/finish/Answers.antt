@@ -5,4 +5,4 @@ use Rattle.securing.proofs.writing.finish.Goals as goal
 pub returns : goal.returns
 returns c =
     let a = c.args in
-    finished a.nwk a.counter c.key_of-found.result a.plain.now a.out.now _ _ a.header c.key_of-found.ensures c.requires.0 c.lay.ensures c.protect.ensures
+    finished a.nwk a.counter _ a.plain.now a.out.now _ _ a.header c.key_under.ensures c.requires.0 c.lay.ensures c.protect.ensures
