@@ -10,7 +10,7 @@ use by_value::CounterTable;
 use control::{Control, KeyIdentifier};
 use mmo::Hashing;
 use nib::{NetworkKeys, Nwk};
-use std::io::{self, Read};
+use std::io;
 
 const LOGGER: u64 = 0x0011223344556677;
 
@@ -229,7 +229,7 @@ fn limits(rt: &HostRuntime) -> io::Result<()> {
 
 fn main(rt: HostRuntime) -> io::Result<()> {
     let mut frames = [0u8; ALL];
-    rt.stdin().read_exact(&mut frames)?;
+    input::read_full(&mut rt.stdin(), &mut frames)?;
     controls(&rt)?;
     paddings(&rt)?;
     old_counters(&rt, frames)?;

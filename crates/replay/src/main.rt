@@ -13,7 +13,8 @@ mod tables;
 mod telling;
 
 use asked::{Call, Case, Head};
-use std::io::{self, Read};
+use input::read_full;
+use std::io;
 use telling::Line;
 
 // No run takes more cases.
@@ -47,27 +48,11 @@ fn run(case: &Case<'_>, space: &mut [u8], line: Line<'_>) -> io::Result<()> {
     }
 }
 
-// Reads until the space is full or the input ends. Each read but the last brings a byte.
-fn read_full(rt: &HostRuntime, space: &mut [u8]) -> io::Result<usize> {
-    let mut count = 0;
-    for _ in 0..space.len() {
-        let Some(rest) = space.get_mut(count..) else {
-            break;
-        };
-        let more = rt.stdin().read(rest)?;
-        if more == 0 {
-            break;
-        }
-        count += more;
-    }
-    Ok(count)
-}
-
 // Reads a case and runs it. Whether there may be another. A case that is cut, or has more in it than is taken: the line `bad`, and
 // reading stops.
 fn step(rt: &HostRuntime, body: &mut [u8], space: &mut [u8]) -> io::Result<bool> {
     let mut bytes = [0u8; 44];
-    let n = read_full(rt, &mut bytes)?;
+    let n = read_full(&mut rt.stdin(), &mut bytes)?;
     if n == 0 {
         return Ok(false);
     }
@@ -81,7 +66,7 @@ fn step(rt: &HostRuntime, body: &mut [u8], space: &mut [u8]) -> io::Result<bool>
         line.text("bad\n")?;
         return Ok(false);
     }
-    if read_full(rt, &mut body[..wanted])? < wanted {
+    if read_full(&mut rt.stdin(), &mut body[..wanted])? < wanted {
         line.text("bad\n")?;
         return Ok(false);
     }

@@ -1,0 +1,21 @@
+// Reading a whole input into memory that is lent, for the programs.
+#![tactic(auto)]
+
+ghost use Rattle.std.specs.Prelude.{◌≤◌, length, IfOk};
+
+use std::io::{self, Read};
+
+// Reads until the space is full or the input ends: how many bytes were read. Each read but the last brings one at least.
+pub fn read_full<R: Read>(source: &mut R, space: &mut [u8]) -> io::Result<usize>
+    ensures { IfOk result (λ n. n ≤ length space.new) }
+{
+    let mut count = 0;
+    for _ in 0..space.len() {
+        let more = source.read(&mut space[count..])?;
+        if more == 0 {
+            break;
+        }
+        count += more;
+    }
+    Ok(count)
+}
