@@ -113,8 +113,13 @@ module _ (rows : List CounterRow) (used : ℕ) (k : Pair) (fits : used ≤ capac
       let p = place-some counter_rows rows used k empty in_use_lent i e in
       ap (λ (j : ℕ). Held (slice_index_or rows j empty)) (sym p.0) ∙ sym (held-row rows used k fits (rw (sym p.0) at p.1))
 
-  pub held_nowhere : seen ≡ None → cond (nat_lt used (capacity (length rows))) Free Full ≡ held_for rows used k
-  held_nowhere e = sym (held_none rows used k fits (place-none counter_rows rows used k empty in_use_lent e))
+  pub held_free : seen ≡ None → used < capacity (length rows) → Free ≡ held_for rows used k
+  held_free e h =
+      sym (held_none rows used k fits (place-none counter_rows rows used k empty in_use_lent e) ∙ ap (λ (b : Bool). cond b Free Full) (lt-ltb used (capacity (length rows)) h))
+
+  pub held_full : seen ≡ None → capacity (length rows) ≤ used → Full ≡ held_for rows used k
+  held_full e h =
+      sym (held_none rows used k fits (place-none counter_rows rows used k empty in_use_lent e) ∙ ap (λ (b : Bool). cond b Free Full) (le-ltb used (capacity (length rows)) h))
 
   module _ (c : Cell) where
     pub placed_here : (i : ℕ) → seen ≡ Some i → record { outcome = Ok tt; used = used; rows = slice_set rows i (row_of k c) } ≡ placed rows used k c
@@ -127,8 +132,8 @@ module _ (rows : List CounterRow) (used : ℕ) (k : Pair) (fits : used ≤ capac
         let p = place-none counter_rows rows used k empty in_use_lent e in
         (λ j. record { outcome = Ok tt; used = used + 1; rows = slice_set rows (sym p j) (row_of k c) }) ∙ sym (placed-new rows used k fits c p h)
 
-    pub placed_nowhere : seen ≡ None → capacity (length rows) ≤ used → refused TableFull used rows ≡ placed rows used k c
-    placed_nowhere e h = sym (placed-full rows used k fits c (place-none counter_rows rows used k empty in_use_lent e) (omega arith))
+    pub placed_none : seen ≡ None → capacity (length rows) ≤ used → refused TableFull used rows ≡ placed rows used k c
+    placed_none e h = sym (placed-full rows used k fits c (place-none counter_rows rows used k empty in_use_lent e) (omega arith))
 
 -- ---- forgetting
 

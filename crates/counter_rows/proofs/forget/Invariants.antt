@@ -7,11 +7,7 @@ use Rattle.counter_rows.proofs.forget.Given as goal
 
 abbrev pub invariant-loop-i : goal.invariant-loop-i
 invariant-loop-i l = record {
-  within : l.i ≤ l.many;
   fewer : l.kept ≤ l.i;
   counts : l.kept ≡ length (kept l.number l.i l.initial.rows);
   rows : l.rows ≡ state l.number l.initial.rows l.i (l.i - l.kept);
 }
-
-abbrev pub decreases-loop-i : goal.decreases-loop-i
-decreases-loop-i l = l.many - l.i

@@ -1,21 +1,25 @@
--- `counter_rows::held` meets its contract, by the place that the search yields. Assumes nothing.
-use Rattle.std.proofs.Common.{◌≡◌, ◌<◌, true, length, get_or, sym, ◌∙◌, arith}
-use Rattle.nib.specs.Counters.{pair, empty}
-use Rattle.nib.proofs.CounterLaws.{place, held_found, held-nobody}
-use Rattle.nib.specs.Placing.{searched}
+-- `counter_rows::held` meets its contract, by what `position` gives of the rows in use. Assumes nothing.
+use Rattle.std.proofs.Common.{◌∙◌, sym}
+use Rattle.nib.specs.Counters.{pair}
+use Rattle.nib.proofs.CounterLaws.{held-over, held_here, held_free, held_full}
 use Rattle.counter_rows.proofs.held.Goals as goal
 
-pub returns-then-at-many : goal.returns-then-at-many
-returns-then-at-many c =
+pub returns-then-places-used : goal.returns-then-places-used
+returns-then-places-used c =
     let x = c.args in
-    let k = pair x.number x.sender in
-    let p : c.place_of-at.result ≡ place x.rows.now x.used k = rw c.searched-many.ensures at c.place_of-at.ensures in
-    let h : place x.rows.now x.used k < searched (length x.rows.now) x.used = omega (arith, p, c.searched-many.ensures, c.if-at-many.true) in
-    c.somebody.ensures ∙ (λ i. record { room = true; found = true; row = get_or x.rows.now (p i) empty }) ∙ sym (held_found x.rows.now x.used k h)
+    sym (held-over x.rows.now x.used (pair x.number x.sender) (rw c.capacity-places.ensures at c.if-places-used.true))
 
-pub returns : goal.returns
-returns c =
+pub returns-in-Some : goal.returns-in-Some
+returns-in-Some c =
     let x = c.args in
-    let k = pair x.number x.sender in
-    let p : c.place_of-at.result ≡ place x.rows.now x.used k = rw c.searched-many.ensures at c.place_of-at.ensures in
-    c.nobody.ensures ∙ sym (held-nobody x.rows.now x.used k (λ h. omega (arith, p, c.searched-many.ensures, c.if-at-many.false, h)))
+    held_here x.rows.now x.used (pair x.number x.sender) (rw c.capacity-places.ensures at c.if-places-used.false) c.in-Some.at (sym c.place_of.ensures ∙ c.in-Some.is)
+
+pub returns-in-None : goal.returns-in-None
+returns-in-None c =
+    let x = c.args in
+    held_free x.rows.now x.used (pair x.number x.sender) (rw c.capacity-places.ensures at c.if-places-used.false) (sym c.place_of.ensures ∙ c.in-None.is) (rw c.capacity-places.ensures at c.if-used-places.true)
+
+pub returns-in-None-2 : goal.returns-in-None-2
+returns-in-None-2 c =
+    let x = c.args in
+    held_full x.rows.now x.used (pair x.number x.sender) (rw c.capacity-places.ensures at c.if-places-used.false) (sym c.place_of.ensures ∙ c.in-None-2.is) (rw c.capacity-places.ensures at c.if-used-places.false)

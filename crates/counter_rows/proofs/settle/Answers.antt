@@ -1,33 +1,41 @@
--- `counter_rows::settle` meets its contract: a row is written at the place that the search yields, or none is. Assumes nothing.
-use Rattle.std.proofs.Common.{◌≡◌, ◌<◌, length, set, sym, ap, ◌∙◌, arith, rules}
-use Rattle.nib.specs.declared.counters.Placement.{Placement}
-use Rattle.nib.specs.Counters.{row_pair, left}
-use Rattle.nib.proofs.CounterLaws.{place, settles}
-use Rattle.nib.specs.Placing.{placing}
+-- `counter_rows::settle` meets its contract: the row is written where `position` finds one of its pair, or after the last, or not at all.
+-- Assumes nothing.
+use Rattle.std.proofs.Common.{◌∙◌, sym, ap}
+use Rattle.nib.specs.Counters.{row_pair, row_cell, settled}
+use Rattle.nib.proofs.CounterLaws.{placed-over, placed_here, placed_last, placed_none}
 use Rattle.counter_rows.proofs.settle.Goals as goal
-use Rattle.counter_rows.proofs.settle.Goals.{then-placed, else-placed}
 
-pub bounds-rows-at : goal.bounds-rows-at
-bounds-rows-at c =
+pub returns-in_default : goal.returns-in_default
+unfolding settled
+returns-in_default c = sym (ap (settled c.args.rows.now c.args.used) c.in_default.is)
+
+pub returns-then-places-used : goal.returns-then-places-used
+unfolding settled
+returns-then-places-used c =
     let x = c.args in
-    let p : c.place_of-at.result ≡ place x.rows.now x.used (row_pair x.change.row) = rw c.searched-many.ensures at c.place_of-at.ensures in
-    let q : c.placing-placed.result ≡ placing x.change.writes (length x.rows.now) x.used (place x.rows.now x.used (row_pair x.change.row)) = rw p at c.placing-placed.ensures in
-    let h = ((settles x.rows.now x.used x.change).0 (sym (ap (λ (r : Placement). r.writes) q) ∙ c.if-placed.true)).0 in
-    omega (arith, p, h)
+    let row = c.in-Some.row in
+    sym (ap (settled x.rows.now x.used) c.in-Some.is ∙ placed-over x.rows.now x.used (row_pair row) (row_cell row) (rw c.capacity-places.ensures at c.if-places-used.true))
 
-pub offset_bounds-rows-at : goal.offset_bounds-rows-at
-offset_bounds-rows-at c = let h : c.place_of-at.result < length c.args.rows.now = bounds-rows-at c in search rules
-
-pub returns : goal.returns
-returns c =
+pub returns-in-Some-place_of : goal.returns-in-Some-place_of
+unfolding settled
+returns-in-Some-place_of c =
     let x = c.args in
-    let p : c.place_of-at.result ≡ place x.rows.now x.used (row_pair x.change.row) = rw c.searched-many.ensures at c.place_of-at.ensures in
-    let q : c.placing-placed.result ≡ placing x.change.writes (length x.rows.now) x.used (place x.rows.now x.used (row_pair x.change.row)) = rw p at c.placing-placed.ensures in
-    let s = settles x.rows.now x.used x.change in
-    elim c.if-placed.branch [
-      | then-placed w ↦
-          (λ i. left (q i).recorded (w.rows-is i)) ∙ (λ i. left (placing x.change.writes (length x.rows.now) x.used (place x.rows.now x.used (row_pair x.change.row))).recorded (set x.rows.now (p i) x.change.row))
-          ∙ (s.0 (sym (ap (λ (r : Placement). r.writes) q) ∙ w.if-placed.true)).1
-      | else-placed w ↦
-          (λ i. left (q i).recorded (w.rows-is i)) ∙ s.1 (sym (ap (λ (r : Placement). r.writes) q) ∙ w.if-placed.false)
-    ]
+    let row = c.in-Some.row in
+    placed_here x.rows.now x.used (row_pair row) (rw c.capacity-places.ensures at c.if-places-used.false) (row_cell row) c.in-Some-place_of.at (sym c.place_of.ensures ∙ c.in-Some-place_of.is)
+    ∙ sym (ap (settled x.rows.now x.used) c.in-Some.is)
+
+pub returns-in-None : goal.returns-in-None
+unfolding settled
+returns-in-None c =
+    let x = c.args in
+    let row = c.in-Some.row in
+    placed_last x.rows.now x.used (row_pair row) (rw c.capacity-places.ensures at c.if-places-used.false) (row_cell row) (sym c.place_of.ensures ∙ c.in-None.is) (rw c.capacity-places.ensures at c.if-used-places.true)
+    ∙ sym (ap (settled x.rows.now x.used) c.in-Some.is)
+
+pub returns-in-None-2 : goal.returns-in-None-2
+unfolding settled
+returns-in-None-2 c =
+    let x = c.args in
+    let row = c.in-Some.row in
+    placed_none x.rows.now x.used (row_pair row) (rw c.capacity-places.ensures at c.if-places-used.false) (row_cell row) (sym c.place_of.ensures ∙ c.in-None-2.is) (rw c.capacity-places.ensures at c.if-used-places.false)
+    ∙ sym (ap (settled x.rows.now x.used) c.in-Some.is)
