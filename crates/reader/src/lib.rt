@@ -1,7 +1,8 @@
 // The frame reader (document 01): fields that set up a gateway and present frames to it, and a line for each frame.
 #![tactic(auto)]
 
+mod faults;
 mod reading;
-mod rows;
 
-pub use reading::{BadField, Event, Fault, Line, Reader, Step, next, start};
+pub use faults::{BadField, Fault};
+pub use reading::{Event, Line, Reader};

@@ -1,18 +1,18 @@
 // Fields act in order. A line for each frame: its number from 1, answer, start, length.
-ghost use Rattle.std.specs.Prelude.{◌≡◌, ◌≤◌, length};
-ghost use Rattle.reader.specs.Reading.{started, bad, quiet, key_field, counter_field, active_field, frame_field, acted, past, stepped};
+ghost use Rattle.std.specs.Prelude.{◌≡◌};
+ghost use Rattle.reader.specs.Reading.{started, bad_field, quietly, eventually, key_field, counter_field, active_field, presented, opened_by, frame_field, acted, stepped};
 
-use crate::rows::{key_in, repeated, with_key};
+use crate::faults::{BadField, Fault};
 use answer::{Answer, Refusal, Told};
-use fields::{FieldRead, field_at};
-use nib::{CounterRow, NetworkKeys, Nwk};
+use by_value::CounterTable;
+use fields::field_at;
+use nib::{NetworkKeys, Nwk, Standing};
 
 // The gateway, the place in the input, and how many fields were read and frames presented.
 #[derive(Clone, Copy)]
 pub struct Reader {
     pub nwk: Nwk,
-    pub rows: [CounterRow; 64],
-    pub used: usize,
+    pub table: CounterTable,
     pub at: usize,
     pub fields: u64,
     pub frames: u64,
@@ -24,249 +24,168 @@ pub struct Line {
     pub told: Told,
 }
 
-// What is wrong with a field, or with the input.
-#[derive(Clone, Copy)]
-pub enum Fault {
-    UnknownTag,
-    WrongLength,
-    RepeatedKey,
-    RepeatedRow,
-    ThirdKey,
-    SurplusRow,
-    CutField,
-    InputTooLong,
-}
-
-// The field that is not right: its number from 1, and the place in the input where it begins.
-#[derive(Clone, Copy)]
-pub struct BadField {
-    pub field: u64,
-    pub at: usize,
-    pub fault: Fault,
-}
-
-// What a field gives: nothing to say, a line, the line `bad` (reading stops), or the end.
+// What a field gives: nothing to say, a line, or the end of the input.
 #[derive(Clone, Copy)]
 pub enum Event {
     Quiet,
     Tells(Line),
-    Bad(BadField),
     End,
 }
 
-#[derive(Clone, Copy)]
-pub struct Step {
-    pub event: Event,
-    pub reader: Reader,
-}
-
-// Level 5, active 0 and empty tables.
-#[tactic(auto, unfolding(crate::specs::Reading::started))]
-pub fn start() -> Reader
-    ensures { result ≡ started }
-{
-    let none = nib::key_row(0, [0; 16]);
-    let empty = nib::empty_row();
-    Reader {
-        nwk: Nwk {
-            level: 5,
-            own: 0,
-            active: 0,
-            keys: NetworkKeys {
-                rows: [none; 2],
+impl Reader {
+    // Level 5, active 0 and empty tables.
+    #[tactic(auto, unfolding(crate::specs::Reading::started))]
+    pub fn start() -> Reader
+        ensures { result ≡ started }
+    {
+        Reader {
+            nwk: Nwk {
+                level: 5,
+                own: 0,
+                active: 0,
+                keys: NetworkKeys {
+                    rows: [nib::key_row(0, [0; 16]); 2],
+                    used: 0,
+                },
+            },
+            table: CounterTable {
+                rows: [nib::empty_row(); 64],
                 used: 0,
             },
-        },
-        rows: [empty; 64],
-        used: 0,
-        at: 0,
-        fields: 0,
-        frames: 0,
-    }
-}
-
-// The reader stands where the field begins.
-fn bad(reader: Reader, fault: Fault) -> Step
-    ensures { result ≡ bad reader fault }
-{
-    let field = std::num::wrapping_add_u64(reader.fields, 1);
-    let at = reader.at;
-    Step {
-        event: Event::Bad(BadField { field, at, fault }),
-        reader,
-    }
-}
-
-fn quiet(reader: Reader) -> Step
-    ensures { result ≡ quiet reader }
-{
-    Step {
-        event: Event::Quiet,
-        reader,
-    }
-}
-
-// 0x01: number, key.
-#[tactic(auto, unfolding(crate::specs::Reading::key_field))]
-fn key_field(reader: Reader, body: &[u8]) -> Step
-    ensures { result ≡ key_field reader body.now }
-{
-    if body.len() != 17 {
-        return bad(reader, Fault::WrongLength);
-    }
-    let mut nwk = reader.nwk;
-    let keys = nwk.keys;
-    if 2 <= keys.used {
-        return bad(reader, Fault::ThirdKey);
-    }
-    let number = body[0];
-    if nib::key_of(keys, number).found {
-        return bad(reader, Fault::RepeatedKey);
-    }
-    let key = key_in(&body[1..]);
-    let more = with_key(keys, nib::key_row(number, key));
-    nwk.keys = more;
-    let mut next = reader;
-    next.nwk = nwk;
-    quiet(next)
-}
-
-// 0x02: number, sender, counter.
-#[tactic(auto, unfolding(crate::specs::Reading::counter_field))]
-fn counter_field(reader: Reader, body: &[u8]) -> Step
-    ensures { result ≡ counter_field reader body.now }
-{
-    if body.len() != 13 {
-        return bad(reader, Fault::WrongLength);
-    }
-    let used = reader.used;
-    if 64 <= used {
-        return bad(reader, Fault::SurplusRow);
-    }
-    let number = body[0];
-    let sender = auxiliary_header::number_at(body, 1, 8);
-    let counter = auxiliary_header::number_at(body, 9, 4) as u32;
-    let mut rows = reader.rows;
-    if repeated(rows, used, number, sender) < used {
-        return bad(reader, Fault::RepeatedRow);
-    }
-    rows[used] = nib::recorded_row(number, sender, counter);
-    let mut next = reader;
-    next.rows = rows;
-    next.used = used + 1;
-    quiet(next)
-}
-
-// 0x03: the active number.
-#[tactic(auto, unfolding(crate::specs::Reading::active_field))]
-fn active_field(reader: Reader, body: &[u8]) -> Step
-    ensures { result ≡ active_field reader body.now }
-{
-    if body.len() != 1 {
-        return bad(reader, Fault::WrongLength);
-    }
-    let mut nwk = reader.nwk;
-    nwk.active = body[0];
-    let mut next = reader;
-    next.nwk = nwk;
-    quiet(next)
-}
-
-// A frame of a size that is taken, opened in a copy.
-fn open_copy(reader: Reader, body: &[u8]) -> Step
-    requires { length body.now ≤ 1024 }
-    ensures { result ≡ frame_field reader body.now }
-{
-    let n = body.len();
-    let mut frame = [0u8; 1024];
-    octets::copy(body, &mut frame);
-    let mut nwk = reader.nwk;
-    let rows = reader.rows;
-    let opened = nwk_by_value::open_with(nwk, rows, reader.used, &mut frame[..n]);
-    let after = opened.rows;
-    let answer = opened.answer;
-    let number = std::num::wrapping_add_u64(reader.frames, 1);
-    nwk.active = opened.active;
-    let next = Reader {
-        nwk,
-        rows: after,
-        used: opened.used,
-        at: reader.at,
-        fields: reader.fields,
-        frames: number,
-    };
-    let line = Line {
-        frame: number,
-        told: answer::told_of(answer),
-    };
-    Step {
-        event: Event::Tells(line),
-        reader: next,
-    }
-}
-
-// 0x10: a frame. One of more than 1,024 bytes is refused as it stands (7).
-fn frame_field(reader: Reader, body: &[u8]) -> Step
-    ensures { result ≡ frame_field reader body.now }
-{
-    if body.len() <= 1024 {
-        return open_copy(reader, body);
-    }
-    let number = std::num::wrapping_add_u64(reader.frames, 1);
-    let mut next = reader;
-    next.frames = number;
-    let line = Line {
-        frame: number,
-        told: answer::told_of(Answer::Refused(Refusal::Unsupported)),
-    };
-    Step {
-        event: Event::Tells(line),
-        reader: next,
-    }
-}
-
-#[tactic(auto, unfolding(crate::specs::Reading::acted))]
-fn acted(reader: Reader, tag: u8, body: &[u8]) -> Step
-    ensures { result ≡ acted reader tag body.now }
-{
-    match tag {
-        0x01 => key_field(reader, body),
-        0x02 => counter_field(reader, body),
-        0x03 => active_field(reader, body),
-        0x10 => frame_field(reader, body),
-        _ => bad(reader, Fault::UnknownTag),
-    }
-}
-
-// The step, with the reader past its field.
-fn past(step: Step, to: usize) -> Step
-    ensures { result ≡ past step to }
-{
-    let event = step.event;
-    let mut reader = step.reader;
-    reader.at = to;
-    reader.fields = std::num::wrapping_add_u64(reader.fields, 1);
-    Step { event, reader }
-}
-
-// One field of the input s, from where the reader stands.
-#[tactic(auto, unfolding(crate::specs::Reading::stepped))]
-pub fn next(reader: Reader, s: &[u8]) -> Step
-    ensures { result ≡ stepped reader s.now }
-{
-    if 65536 < s.len() {
-        return bad(reader, Fault::InputTooLong);
-    }
-    match field_at(s, reader.at) {
-        FieldRead::End => Step {
-            event: Event::End,
-            reader,
-        },
-        FieldRead::Cut => bad(reader, Fault::CutField),
-        FieldRead::Whole(field) => {
-            let from = field.from;
-            let to = field.to;
-            past(acted(reader, field.tag, &s[from..to]), to)
+            at: 0,
+            fields: 0,
+            frames: 0,
         }
+    }
+
+    // The reader stands where the field begins.
+    fn bad(&self, fault: Fault) -> BadField
+        ensures { result ≡ bad_field self.now fault }
+    {
+        let field = self.fields.wrapping_add(1);
+        let at = self.at;
+        BadField { field, at, fault }
+    }
+
+    // 0x01: number, key.
+    #[tactic(auto, unfolding(crate::specs::Reading::key_field))]
+    fn key_field(&mut self, body: &[u8]) -> Result<(), Fault>
+        ensures { quietly self.old result self.new ≡ key_field self.old body.now }
+    {
+        if body.len() != 17 {
+            return Err(Fault::WrongLength);
+        }
+        let used = self.nwk.keys.used;
+        if 2 <= used {
+            return Err(Fault::ThirdKey);
+        }
+        let number = body[0];
+        if nib::key_of(self.nwk.keys, number).is_some() {
+            return Err(Fault::RepeatedKey);
+        }
+        let mut key = [0u8; 16];
+        key.copy_from_slice(&body[1..]);
+        self.nwk.keys.rows[used] = nib::key_row(number, key);
+        self.nwk.keys.used = used + 1;
+        Ok(())
+    }
+
+    // 0x02: number, sender, counter.
+    #[tactic(auto, unfolding(crate::specs::Reading::counter_field))]
+    fn counter_field(&mut self, body: &[u8]) -> Result<(), Fault>
+        ensures { quietly self.old result self.new ≡ counter_field self.old body.now }
+    {
+        if body.len() != 13 {
+            return Err(Fault::WrongLength);
+        }
+        if 64 <= self.table.used {
+            return Err(Fault::SurplusRow);
+        }
+        let number = body[0];
+        let sender = auxiliary_header::number_at(body, 1, 8);
+        let counter = auxiliary_header::number_at(body, 9, 4) as u32;
+        if let Standing::Held(_) = by_value::held_with(&self.table, number, sender) {
+            return Err(Fault::RepeatedRow);
+        }
+        let recorded = by_value::record_with(self.table, number, sender, counter);
+        self.table = recorded.unwrap_or(self.table);
+        Ok(())
+    }
+
+    // 0x03: the active number.
+    #[tactic(auto, unfolding(crate::specs::Reading::active_field))]
+    fn active_field(&mut self, body: &[u8]) -> Result<(), Fault>
+        ensures { quietly self.old result self.new ≡ active_field self.old body.now }
+    {
+        if body.len() != 1 {
+            return Err(Fault::WrongLength);
+        }
+        self.nwk.active = body[0];
+        Ok(())
+    }
+
+    // A frame, opened in a copy. One of more than 1,024 bytes is refused as it stands (7).
+    fn open(&mut self, body: &[u8]) -> Answer
+        ensures { opened_by self.old result self.new ≡ frame_field self.old body.now }
+    {
+        if 1024 < body.len() {
+            return Err(Refusal::Unsupported);
+        }
+        let mut space = [0u8; 1024];
+        let frame = &mut space[..body.len()];
+        frame.copy_from_slice(body);
+        let opened = nwk::open_nwk(self.nwk, &mut self.table.rows, self.table.used, frame);
+        self.table.used = opened.used;
+        self.nwk.active = opened.active;
+        opened.answer
+    }
+
+    // 0x10: a frame.
+    fn frame_field(&mut self, body: &[u8]) -> Line
+        ensures { quiet_line result self.new ≡ frame_field self.old body.now }
+    {
+        let answer = self.open(body);
+        self.frames = self.frames.wrapping_add(1);
+        Line {
+            frame: self.frames,
+            told: Told::from(answer),
+        }
+    }
+
+    #[tactic(auto, unfolding(crate::specs::Reading::acted))]
+    fn act(&mut self, tag: u8, body: &[u8]) -> Result<Event, Fault>
+        ensures { eventually self.old result self.new ≡ acted self.old tag body.now }
+    {
+        match tag {
+            0x01 => self.key_field(body)?,
+            0x02 => self.counter_field(body)?,
+            0x03 => self.active_field(body)?,
+            0x10 => return Ok(Event::Tells(self.frame_field(body))),
+            _ => return Err(Fault::UnknownTag),
+        }
+        Ok(Event::Quiet)
+    }
+
+    // One field of the input s, from where the reader stands. The reader goes past a whole field, whatever it gave.
+    #[tactic(auto, unfolding(crate::specs::Reading::stepped))]
+    pub fn next(&mut self, s: &[u8]) -> Result<Event, BadField>
+        ensures { record { event = result; reader = self.new } ≡ stepped self.old s.now }
+    {
+        if 65536 < s.len() {
+            return Err(self.bad(Fault::InputTooLong));
+        }
+        let Ok(read) = field_at(s, self.at) else {
+            return Err(self.bad(Fault::CutField));
+        };
+        let Some(field) = read else {
+            return Ok(Event::End);
+        };
+        let event = match self.act(field.tag, &s[field.from..field.to]) {
+            Ok(event) => Ok(event),
+            Err(fault) => Err(self.bad(fault)),
+        };
+        self.at = field.to;
+        self.fields = self.fields.wrapping_add(1);
+        event
     }
 }
