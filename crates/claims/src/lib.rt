@@ -3,16 +3,15 @@
 
 ghost use Rattle.std.specs.Prelude.{◌≡◌};
 ghost use Rattle.auxiliary_header.specs.Auxiliary.{auxiliary_at};
-ghost use Rattle.claims.specs.Claims.{claimed, is_network, number_of, nwk_named, nwk_auxiliary, nwk_who, aps_named, aps_auxiliary, aps_who};
+ghost use Rattle.claims.specs.Claims.{sized, unspent, claimed, number_of, nwk_who, aps_who};
 
-use answer::{Answer, Refusal};
-use auxiliary_header::{Auxiliary, AuxiliaryRead, KeyUsed, Sender};
+use answer::Refusal;
+use auxiliary_header::{Auxiliary, KeyUsed};
 use control::Control;
-use frame_header::{ApsRead, NwkRead};
 use nib::NetworkKeys;
 
 // Sender, counter and key as the auxiliary header has them; `at` is the place of its control byte, `payload` the place after it.
-#[derive(Clone, Copy)]
+#[derive(Clone, Copy, Debug, PartialEq, Eq)]
 pub struct Claim {
     pub key: KeyUsed,
     pub sender: u64,
@@ -22,43 +21,11 @@ pub struct Claim {
     pub payload: usize,
 }
 
-// Either the answer is settled by the headers, or the frame claims to be somebody's.
-#[derive(Clone, Copy)]
+// What the headers say of a frame that they do not refuse: it is plain, or it claims to be somebody's.
+#[derive(Clone, Copy, Debug, PartialEq, Eq)]
 pub enum Who {
-    Told(Answer),
+    Plain { start: usize, len: usize },
     Claims(Claim),
-}
-
-fn refuse(refusal: Refusal) -> Who
-    ensures { result ≡ Who.Told (Answer.Refused refusal) }
-{
-    Who::Told(Answer::Refused(refusal))
-}
-
-fn claimed(a: Auxiliary, sender: u64, at: usize) -> Who
-    ensures { result ≡ claimed a sender at }
-{
-    let key = a.key;
-    let control = a.control;
-    Who::Claims(Claim {
-        key,
-        sender,
-        counter: a.counter,
-        control,
-        at,
-        payload: a.next,
-    })
-}
-
-fn is_network(key: KeyUsed) -> bool
-    ensures { result ≡ is_network key }
-{
-    match key {
-        KeyUsed::Link => false,
-        KeyUsed::Network(_) => true,
-        KeyUsed::Transport => false,
-        KeyUsed::Load => false,
-    }
 }
 
 // The key number that a frame names, 0 where it names none.
@@ -73,106 +40,80 @@ pub fn number_of(key: KeyUsed) -> u8
     }
 }
 
-fn nwk_named(keys: NetworkKeys, a: Auxiliary, at: usize) -> Who
-    ensures { result ≡ nwk_named keys a at a.sender }
-{
-    let sender = a.sender;
-    let key = a.key;
-    let Sender::Address(address) = sender else {
-        return refuse(Refusal::SenderAbsent);
-    };
-    if !is_network(key) {
-        return refuse(Refusal::KeyNotAllowed);
-    }
-    if !nib::key_of(keys, number_of(key)).found {
-        return refuse(Refusal::NoNetworkKey);
-    }
-    claimed(a, address, at)
-}
-
-fn nwk_auxiliary(keys: NetworkKeys, frame: &[u8], at: usize) -> Who
-    ensures { result ≡ nwk_auxiliary keys at (auxiliary_at frame.now at) }
-{
-    let AuxiliaryRead::Whole(a) = auxiliary_header::read(frame, at) else {
-        return refuse(Refusal::Cut);
-    };
-    if a.counter == 4294967295 {
-        return refuse(Refusal::CounterSpent);
-    }
-    nwk_named(keys, a, at)
-}
-
-// Document 01, opening NWK, up to the keys.
-#[tactic(auto, unfolding(crate::specs::Claims::nwk_who))]
-pub fn nwk_who(keys: NetworkKeys, frame: &[u8]) -> Who
-    ensures { result ≡ nwk_who keys frame.now }
+// The sizes that are taken.
+fn sized(frame: &[u8]) -> Result<(), Refusal>
+    ensures { result ≡ sized frame.now }
 {
     if 1024 < frame.len() {
-        return refuse(Refusal::Unsupported);
+        return Err(Refusal::Unsupported);
     }
     if frame.len() < 4 {
-        return refuse(Refusal::Cut);
+        return Err(Refusal::Cut);
     }
-    let NwkRead::Whole(h) = frame_header::nwk(frame) else {
-        return refuse(Refusal::Cut);
-    };
-    if h.secured {
-        return nwk_auxiliary(keys, frame, h.len);
+    Ok(())
+}
+
+// The auxiliary header, where its counter may still be used.
+fn unspent(frame: &[u8], at: usize) -> Result<Auxiliary, Refusal>
+    ensures { result ≡ unspent (auxiliary_at frame.now at) }
+{
+    let a = auxiliary_header::read(frame, at)?;
+    if a.counter == u32::MAX {
+        return Err(Refusal::CounterSpent);
     }
-    Who::Told(Answer::Plain {
-        start: h.len,
-        len: frame.len() - h.len,
+    Ok(a)
+}
+
+fn claimed(a: Auxiliary, sender: u64, at: usize) -> Who
+    ensures { result ≡ claimed a sender at }
+{
+    Who::Claims(Claim {
+        key: a.key,
+        sender,
+        counter: a.counter,
+        control: a.control,
+        at,
+        payload: a.next,
     })
 }
 
-fn aps_named(a: Auxiliary, at: usize) -> Who
-    ensures { result ≡ aps_named a at a.sender }
+// Document 01, opening NWK, up to the keys.
+#[tactic(auto, using(crate::proofs::Within::nwk_within), unfolding(crate::specs::Claims::nwk_who))]
+pub fn nwk_who(keys: NetworkKeys, frame: &[u8]) -> Result<Who, Refusal>
+    ensures { result ≡ nwk_who keys frame.now }
 {
-    let sender = a.sender;
-    let key = a.key;
-    let Sender::Address(address) = sender else {
-        return refuse(Refusal::DeviceAbsent);
-    };
-    if is_network(key) {
-        return refuse(Refusal::KeyNotAllowed);
+    sized(frame)?;
+    let header = frame_header::nwk(frame)?;
+    let start = header.len;
+    if !header.secured {
+        let len = frame.len() - start;
+        return Ok(Who::Plain { start, len });
     }
-    claimed(a, address, at)
-}
-
-fn aps_auxiliary(frame: &[u8], at: usize) -> Who
-    ensures { result ≡ aps_auxiliary at (auxiliary_at frame.now at) }
-{
-    let AuxiliaryRead::Whole(a) = auxiliary_header::read(frame, at) else {
-        return refuse(Refusal::Cut);
+    let a = unspent(frame, start)?;
+    let sender = a.sender.ok_or(Refusal::SenderAbsent)?;
+    let KeyUsed::Network(number) = a.key else {
+        return Err(Refusal::KeyNotAllowed);
     };
-    if a.counter == 4294967295 {
-        return refuse(Refusal::CounterSpent);
-    }
-    aps_named(a, at)
+    nib::key_of(keys, number).ok_or(Refusal::NoNetworkKey)?;
+    Ok(claimed(a, sender, start))
 }
 
 // Document 01, opening APS, up to the device.
-#[tactic(auto, unfolding(crate::specs::Claims::aps_who))]
-pub fn aps_who(frame: &[u8]) -> Who
+#[tactic(auto, using(crate::proofs::Within::aps_within), unfolding(crate::specs::Claims::aps_who))]
+pub fn aps_who(frame: &[u8]) -> Result<Who, Refusal>
     ensures { result ≡ aps_who frame.now }
 {
-    if 1024 < frame.len() {
-        return refuse(Refusal::Unsupported);
+    sized(frame)?;
+    let header = frame_header::aps(frame)?;
+    let start = header.len;
+    if !header.secured {
+        let len = frame.len() - start;
+        return Ok(Who::Plain { start, len });
     }
-    if frame.len() < 4 {
-        return refuse(Refusal::Cut);
+    let a = unspent(frame, start)?;
+    let sender = a.sender.ok_or(Refusal::DeviceAbsent)?;
+    if matches!(a.key, KeyUsed::Network(_)) {
+        return Err(Refusal::KeyNotAllowed);
     }
-    match frame_header::aps(frame) {
-        ApsRead::NotTaken => refuse(Refusal::Unsupported),
-        ApsRead::Cut => refuse(Refusal::Cut),
-        ApsRead::Whole(h) => {
-            if h.secured {
-                return aps_auxiliary(frame, h.len);
-            }
-            Who::Told(Answer::Plain {
-                start: h.len,
-                len: frame.len() - h.len,
-            })
-        }
-    }
+    Ok(claimed(a, sender, start))
 }
