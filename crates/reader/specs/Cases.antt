@@ -1,5 +1,5 @@
 -- Case 15 of document 01 and a bad field, computed on the definitions. Assumes nothing.
-use Rattle.std.specs.Prelude.{◌≡◌, ℕ, List, [], ◌∷◌, refl}
+use Rattle.std.specs.Prelude.{◌≡◌, ℕ, List, [], ◌∷◌, Err, refl}
 use Rattle.laws.specs.Numbers.{field, value, bit}
 use Rattle.cells.specs.Rows.{find}
 use Rattle.auxiliary_header.specs.Auxiliary.{auxiliary_at}
@@ -9,8 +9,7 @@ use Rattle.nib.specs.Keys.{key_found}
 use Rattle.claims.specs.Claims.{nwk_who}
 use Rattle.judging.specs.OpenNwk.{open_nwk, nwk_placed}
 use Rattle.fields.specs.Fields.{field_at}
-use Rattle.reader.specs.declared.reading.Event.TheVariants.{Bad}
-use Rattle.reader.specs.declared.reading.Fault.TheVariants.{UnknownTag}
+use Rattle.reader.specs.declared.faults.Fault.TheVariants.{UnknownTag}
 use Rattle.reader.specs.Reading.{Printed, line, started, active_field, frame_field, acted, stepped, printed, lines_from, lines}
 
 abbrev case-15 : List ℕ
@@ -33,6 +32,6 @@ prints-case-15 = refl
 abbrev unknown-tag : List ℕ
 unknown-tag = 0x03 ∷ 0x01 ∷ 0x00 ∷ 0x07 ∷ 0x09 ∷ 0x00 ∷ 0x00 ∷ []
 
-pub tells-unknown-tag : (stepped (stepped started unknown-tag).reader unknown-tag).event ≡ Bad (record { field = 2; at = 4; fault = UnknownTag })
+pub tells-unknown-tag : (stepped (stepped started unknown-tag).reader unknown-tag).event ≡ Err (record { field = 2; at = 4; fault = UnknownTag })
 unfolding stepped field_at acted active_field started field value
 tells-unknown-tag = refl

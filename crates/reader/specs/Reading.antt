@@ -1,55 +1,70 @@
 -- The frame reader (document 01): fields act in order, from level 5, active 0 and empty tables; a line for each frame.
-use Rattle.std.specs.Prelude.{ℕ, zero, suc, ◌+◌, ◌-◌, ◌%◌, ◌^◌, cond, not, List, [], ◌∷◌, length, take, drop, replicate, ◌==◌, nat_le, nat_lt, slice_index, slice_set, is_some}
+use Rattle.std.specs.Prelude.{ℕ, zero, suc, ◌+◌, ◌-◌, ◌%◌, ◌^◌, cond, not, List, [], ◌∷◌, length, take, drop, replicate, ◌==◌, nat_le, nat_lt, slice_index, slice_set, is_some, Option, None, Some, Result, Ok, Err, ⊤}
 use Rattle.laws.specs.Numbers.{field}
-use Rattle.answer.specs.Numbers.{told}
+use Rattle.answer.specs.Numbers.{Answer, told}
 use Rattle.cells.specs.Rows.{has_row}
-use Rattle.nib.specs.declared.counters.CounterRow.{CounterRow}
 use Rattle.nib.specs.declared.keys.NetworkKey.{NetworkKey}
 use Rattle.nib.specs.declared.keys.NetworkKeys.{NetworkKeys}
 use Rattle.nib.specs.Counters.{After, counter_rows, pair, recorded, empty}
-use Rattle.nib.specs.Keys.{key_found, key_row, none_found}
+use Rattle.nib.specs.Keys.{key_found, key_row}
 use Rattle.nib.specs.Pairs.{Pair}
 use Rattle.nib.specs.declared.state.Nwk.{Nwk}
+use Rattle.by_value.specs.declared.CounterTable.{CounterTable}
 use Rattle.judging.specs.OpenNwk.{Opened, open_nwk}
-use Rattle.fields.specs.declared.FieldRead.{FieldRead}
-use Rattle.fields.specs.declared.FieldRead.TheVariants as fields
+use Rattle.fields.specs.declared.Cut.{Cut}
+use Rattle.fields.specs.declared.Field.{Field}
 use Rattle.fields.specs.Fields.{field_at}
 use Rattle.reader.specs.declared.reading.Reader.{Reader}
 use Rattle.reader.specs.declared.reading.Line.{Line}
-use Rattle.reader.specs.declared.reading.Fault.{Fault}
-use Rattle.reader.specs.declared.reading.Fault.TheVariants as fault
+use Rattle.reader.specs.declared.faults.BadField.{BadField}
+use Rattle.reader.specs.declared.faults.Fault.{Fault}
+use Rattle.reader.specs.declared.faults.Fault.TheVariants as fault
 use Rattle.reader.specs.declared.reading.Event.{Event}
-use Rattle.reader.specs.declared.reading.Event.TheVariants.{Quiet, Tells, Bad, End}
-use Rattle.reader.specs.declared.reading.Step.{Step}
+use Rattle.reader.specs.declared.reading.Event.TheVariants.{Quiet, Tells, End}
 
 unfoldable pub started : Reader
 started = record {
-  nwk = record { level = 5; own = 0; active = 0; keys = record { rows = replicate 2 none_found; used = 0 } };
-  rows = replicate 64 empty;
-  used = 0;
+  nwk = record { level = 5; own = 0; active = 0; keys = record { rows = replicate 2 (key_row 0 (replicate 16 0)); used = 0 } };
+  table = record { rows = replicate 64 empty; used = 0 };
   at = 0;
   fields = 0;
   frames = 0;
 }
 
--- ---- what a field leaves
+-- ---- what a field gives: an event, or what is wrong with it; and the reader after it
+
+pub record Step : Type 0 where
+  pub event : Result Event BadField
+  pub reader : Reader
 
 abbrev pub with_nwk : Reader → Nwk → Reader
-with_nwk r nwk = record { nwk = nwk; rows = r.rows; used = r.used; at = r.at; fields = r.fields; frames = r.frames }
+with_nwk r nwk = record { nwk = nwk; table = r.table; at = r.at; fields = r.fields; frames = r.frames }
 
-abbrev pub with_rows : Reader → List CounterRow → ℕ → Reader
-with_rows r rows used = record { nwk = r.nwk; rows = rows; used = used; at = r.at; fields = r.fields; frames = r.frames }
+abbrev pub with_table : Reader → CounterTable → Reader
+with_table r table = record { nwk = r.nwk; table = table; at = r.at; fields = r.fields; frames = r.frames }
 
 -- one more, as a number of 64 bits wraps
 abbrev pub counted : ℕ → ℕ
 counted n = (n + 1) % 2 ^ 64
 
 -- a field that is not right: its number from 1, the place where it begins, and what is wrong
+abbrev pub bad_field : Reader → Fault → BadField
+bad_field r fault = record { field = counted r.fields; at = r.at; fault = fault }
+
 abbrev pub bad : Reader → Fault → Step
-bad r fault = record { event = Bad (record { field = counted r.fields; at = r.at; fault = fault }); reader = r }
+bad r fault = record { event = Err (bad_field r fault); reader = r }
 
 abbrev pub quiet : Reader → Step
-quiet r = record { event = Quiet; reader = r }
+quiet r = record { event = Ok Quiet; reader = r }
+
+-- the answer to a field that has nothing to tell, and to any field, from the reader before it and after it
+abbrev pub quietly : Reader → Result ⊤ Fault → Reader → Step
+quietly r (Ok _) after = quiet after
+quietly r (Err fault) after = record { event = Err (bad_field r fault); reader = after }
+
+abbrev pub eventually : Reader → Result Event Fault → Reader → Step
+eventually r (Ok event) after = record { event = Ok event; reader = after }
+eventually r (Err fault) after = record { event = Err (bad_field r fault); reader = after }
 
 -- ---- 0x01: a key row (number, key). Wrong length, surplus or repeated row: bad
 
@@ -63,21 +78,21 @@ unfoldable pub key_field : Reader → List ℕ → Step
 key_field r body =
     cond (not (length body == 17)) (bad r fault.WrongLength)
     (cond (nat_le 2 r.nwk.keys.used) (bad r fault.ThirdKey)
-    (cond is_some (key_found r.nwk.keys (slice_index body 0)) (bad r fault.RepeatedKey)
+    (cond (is_some (key_found r.nwk.keys (slice_index body 0))) (bad r fault.RepeatedKey)
     (quiet (with_nwk r (with_keys r.nwk (with_key r.nwk.keys (key_row (slice_index body 0) (drop 1 body))))))))
 
 -- ---- 0x02: a counter row (number, sender, counter). Wrong length, surplus or repeated row: bad
 
 abbrev pub with_row : Reader → After → Reader
-with_row r after = with_rows r after.rows after.used
+with_row r after = with_table r (record { rows = after.rows; used = after.used })
 
 unfoldable pub counter_field : Reader → List ℕ → Step
 counter_field r body =
     let k : Pair = pair (slice_index body 0) (field body 1 8) in
     cond (not (length body == 13)) (bad r fault.WrongLength)
-    (cond (nat_le 64 r.used) (bad r fault.SurplusRow)
-    (cond (has_row counter_rows (take r.used r.rows) k) (bad r fault.RepeatedRow)
-    (quiet (with_row r (recorded r.rows r.used k (field body 9 4))))))
+    (cond (nat_le 64 r.table.used) (bad r fault.SurplusRow)
+    (cond (has_row counter_rows (take r.table.used r.table.rows) k) (bad r fault.RepeatedRow)
+    (quiet (with_row r (recorded r.table.rows r.table.used k (field body 9 4))))))
 
 -- ---- 0x03: the active number
 
@@ -89,20 +104,28 @@ active_field r body = cond (not (length body == 1)) (bad r fault.WrongLength) (q
 
 -- ---- 0x10: an NWK frame is opened. Its number from 1, answer, start, length
 
-abbrev pub presented : Reader → Opened → Reader
-presented r o = record {
+abbrev pub opened_by : Reader → Opened → Reader
+opened_by r o = record {
   nwk = with_active r.nwk o.active;
-  rows = o.rows;
-  used = o.used;
+  table = record { rows = o.rows; used = o.used };
   at = r.at;
   fields = r.fields;
-  frames = counted r.frames;
+  frames = r.frames;
 }
+
+abbrev pub presented : Reader → Opened → Reader
+presented r o =
+    let t : Reader = opened_by r o in
+    record { nwk = t.nwk; table = t.table; at = t.at; fields = t.fields; frames = counted t.frames }
 
 unfoldable pub frame_field : Reader → List ℕ → Step
 frame_field r body =
-    let o : Opened = open_nwk r.nwk r.rows r.used body in
-    record { event = Tells (record { frame = counted r.frames; told = told o.answer }); reader = presented r o }
+    let o : Opened = open_nwk r.nwk r.table.rows r.table.used body in
+    record { event = Ok (Tells (record { frame = counted r.frames; told = told o.answer })); reader = presented r o }
+
+-- a line, and the reader after it
+abbrev pub telling : Line → Reader → Step
+telling line after = record { event = Ok (Tells line); reader = after }
 
 -- ---- one field: an unknown tag is bad
 
@@ -118,13 +141,13 @@ acted r tag body =
 abbrev pub past : Step → ℕ → Step
 past t to =
     let r : Reader = t.reader in
-    record { event = t.event; reader = record { nwk = r.nwk; rows = r.rows; used = r.used; at = to; fields = counted r.fields; frames = r.frames } }
+    record { event = t.event; reader = record { nwk = r.nwk; table = r.table; at = to; fields = counted r.fields; frames = r.frames } }
 
 -- a cut field is bad
-abbrev pub taken : Reader → List ℕ → FieldRead → Step
-taken r s fields.End = record { event = End; reader = r }
-taken r s fields.Cut = bad r fault.CutField
-taken r s (fields.Whole f) = past (acted r f.tag (take (f.to - f.from) (drop f.from s))) f.to
+abbrev pub taken : Reader → List ℕ → Result (Option Field) Cut → Step
+taken r s (Ok None) = record { event = Ok End; reader = r }
+taken r s (Err _) = bad r fault.CutField
+taken r s (Ok (Some f)) = past (acted r f.tag (take (f.to - f.from) (drop f.from s))) f.to
 
 -- input over 65,536 bytes is bad, and that is checked first
 unfoldable pub stepped : Reader → List ℕ → Step
@@ -137,11 +160,11 @@ pub data Printed : Type 0 where
   is_bad : Printed
 
 -- a line or none, and then the rest; `bad` is a line, and stops
-unfoldable pub printed : Event → List Printed → List Printed
-printed Quiet rest = rest
-printed (Tells l) rest = line l ∷ rest
-printed (Bad f) rest = is_bad ∷ []
-printed End rest = []
+unfoldable pub printed : Result Event BadField → List Printed → List Printed
+printed (Ok Quiet) rest = rest
+printed (Ok (Tells l)) rest = line l ∷ rest
+printed (Ok End) rest = []
+printed (Err f) rest = is_bad ∷ []
 
 unfoldable pub lines_from : ℕ → List ℕ → Reader → List Printed
 unfolding stepped printed

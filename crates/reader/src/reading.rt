@@ -1,6 +1,7 @@
 // Fields act in order. A line for each frame: its number from 1, answer, start, length.
 ghost use Rattle.std.specs.Prelude.{◌≡◌};
-ghost use Rattle.reader.specs.Reading.{started, bad_field, quietly, eventually, key_field, counter_field, active_field, presented, opened_by, frame_field, acted, stepped};
+ghost use Rattle.judging.specs.OpenNwk.{open_nwk};
+ghost use Rattle.reader.specs.Reading.{started, bad_field, quietly, eventually, key_field, counter_field, active_field, opened_by, frame_field, telling, acted, stepped};
 
 use crate::faults::{BadField, Fault};
 use answer::{Answer, Refusal, Told};
@@ -126,7 +127,8 @@ impl Reader {
 
     // A frame, opened in a copy. One of more than 1,024 bytes is refused as it stands (7).
     fn open(&mut self, body: &[u8]) -> Answer
-        ensures { opened_by self.old result self.new ≡ frame_field self.old body.now }
+        ensures value { result ≡ (open_nwk self.old.nwk self.old.table.rows self.old.table.used body.now).answer }
+        ensures reader { self.new ≡ opened_by self.old (open_nwk self.old.nwk self.old.table.rows self.old.table.used body.now) }
     {
         if 1024 < body.len() {
             return Err(Refusal::Unsupported);
@@ -142,7 +144,7 @@ impl Reader {
 
     // 0x10: a frame.
     fn frame_field(&mut self, body: &[u8]) -> Line
-        ensures { quiet_line result self.new ≡ frame_field self.old body.now }
+        ensures { telling result self.new ≡ frame_field self.old body.now }
     {
         let answer = self.open(body);
         self.frames = self.frames.wrapping_add(1);
