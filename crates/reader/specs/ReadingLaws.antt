@@ -1,15 +1,16 @@
 -- The lines of an input: step by step, and to an end. A step that goes on stands further on, so the steps that `lines` takes are all
 -- that there are. Assumes nothing.
-use Rattle.std.specs.Prelude.{◌≡◌, ℕ, zero, suc, ◌+◌, ◌-◌, ◌<◌, ◌≤◌, Bool, true, false, cond, List, length, take, drop, nat_lt}
+use Rattle.std.specs.Prelude.{◌≡◌, ℕ, zero, suc, ◌+◌, ◌-◌, ◌<◌, ◌≤◌, Bool, true, false, cond, List, length, take, drop, nat_lt, Option, Some, None, Result, Ok, Err}
 use Rattle.std.proofs.Math.Path.{refl}
 use native.Mathlib.Omega.{arith}
-use Rattle.fields.specs.declared.FieldRead.{FieldRead}
-use Rattle.fields.specs.declared.FieldRead.TheVariants as fields
+use Rattle.fields.specs.declared.Cut.{Cut}
+use Rattle.fields.specs.declared.Field.{Field}
 use Rattle.fields.specs.Fields.{field_at}
 use Rattle.fields.specs.FieldLaws.{Lies, lies}
-use Rattle.reader.specs.declared.reading.Fault.TheVariants as fault
+use Rattle.reader.specs.declared.faults.BadField.{BadField}
+use Rattle.reader.specs.declared.faults.Fault.TheVariants as fault
 use Rattle.reader.specs.declared.reading.Event.{Event}
-use Rattle.reader.specs.declared.reading.Event.TheVariants.{Quiet, Tells, Bad, End}
+use Rattle.reader.specs.declared.reading.Event.TheVariants.{Quiet, Tells, End}
 use Rattle.reader.specs.declared.reading.Reader.{Reader}
 use Rattle.reader.specs.Reading.{Printed, started, bad, acted, taken, stepped, printed, lines_from, lines}
 
@@ -21,37 +22,37 @@ unrolls n s r = refl
 -- ---- a step that goes on
 
 module _ (s : List ℕ) where
-  abbrev Moves : ℕ → Event → ℕ → Type 0
-  Moves a Quiet b = (a < b) × (a < length s)
-  Moves a (Tells l) b = (a < b) × (a < length s)
-  Moves a (Bad f) b = a ≤ a
-  Moves a End b = a ≤ a
+  abbrev Moves : ℕ → Result Event BadField → ℕ → Type 0
+  Moves a (Ok Quiet) b = (a < b) × (a < length s)
+  Moves a (Ok (Tells l)) b = (a < b) × (a < length s)
+  Moves a (Err f) b = a ≤ a
+  Moves a (Ok End) b = a ≤ a
 
-  moved : (e : Event) (a b : ℕ) → a < b → a < length s → Moves a e b
-  moved Quiet a b h k = (h, k)
-  moved (Tells l) a b h k = (h, k)
-  moved (Bad f) a b h k = omega arith
-  moved End a b h k = omega arith
+  moved : (e : Result Event BadField) (a b : ℕ) → a < b → a < length s → Moves a e b
+  moved (Ok Quiet) a b h k = (h, k)
+  moved (Ok (Tells l)) a b h k = (h, k)
+  moved (Err f) a b h k = omega arith
+  moved (Ok End) a b h k = omega arith
 
   moves : (r : Reader) → Moves r.at (stepped r s).event (stepped r s).reader.at
   unfolding stepped
   moves r = by (nat_lt 65536 (length s)) (field_at s r.at) (lies s r.at)
     where
-      by : (b : Bool) (f : FieldRead) → Lies s r.at f
+      by : (b : Bool) (f : Result (Option Field) Cut) → Lies s r.at f
           → (let t = cond b (bad r fault.InputTooLong) (taken r s f) in Moves r.at t.event t.reader.at)
       by true f l = omega arith
-      by false fields.End l = omega arith
-      by false fields.Cut l = omega arith
-      by false (fields.Whole f) l =
+      by false (Ok None) l = omega arith
+      by false (Err c) l = omega arith
+      by false (Ok (Some f)) l =
           moved (acted r f.tag (take (f.to - f.from) (drop f.from s))).event r.at f.to l.1.0 l.1.1
 
   -- what a step prints, by what is printed after it
-  same : (e : Event) (a b n : ℕ) (xs ys : List Printed) → Moves a e b → length s ≤ a + n → (a < length s → length s < b + n → xs ≡ ys) → printed e xs ≡ printed e ys
+  same : (e : Result Event BadField) (a b n : ℕ) (xs ys : List Printed) → Moves a e b → length s ≤ a + n → (a < length s → length s < b + n → xs ≡ ys) → printed e xs ≡ printed e ys
   unfolding printed
-  same Quiet a b n xs ys m h f = f m.1 (omega arith)
-  same (Tells l) a b n xs ys m h f = rw (f m.1 (omega arith))
-  same (Bad x) a b n xs ys m h f = refl
-  same End a b n xs ys m h f = refl
+  same (Ok Quiet) a b n xs ys m h f = f m.1 (omega arith)
+  same (Ok (Tells l)) a b n xs ys m h f = rw (f m.1 (omega arith))
+  same (Err x) a b n xs ys m h f = refl
+  same (Ok End) a b n xs ys m h f = refl
 
   enough : (n m : ℕ) (r : Reader) → n ≤ m → length s ≤ r.at + n → lines_from (suc m) s r ≡ lines_from (suc n) s r
   unfolding lines_from
