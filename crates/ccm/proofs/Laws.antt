@@ -1,6 +1,6 @@
 -- Laws of the definitions of specs/Ccm.antt: what a turn of a loop over blocks of 16 octets does, and how the MAC begins. Assumes nothing.
-use mathlib.Core.Path.{◌≡◌, refl, ap, ◌∙◌}
-use Prim.Native.Nat.{ℕ, suc, ◌+◌, ◌-◌, ◌*◌, ◌/◌, ◌<◌}
+use mathlib.Core.Path.{◌≡◌, refl, sym, ap, ap₂, ◌∙◌}
+use Prim.Native.Nat.{ℕ, suc, ◌+◌, ◌-◌, ◌*◌, ◌/◌, ◌<◌, min}
 use native.Mathlib.Nat.{suc-ne-zero}
 use native.Mathlib.Omega.{arith}
 use mathlib.Core.List.{List, [], ◌∷◌, ◌++◌, append_assoc}
@@ -9,7 +9,7 @@ use lib.Seq.{take_at, take-add, drop_at, drop-drop, length-take-le}
 use Rattle.laws.specs.Octets.{◌⊕◌}
 use Rattle.laws.specs.XorLaws.{xor-length, xor-nil, nil-xor, xor-take, xor-drop, xor-append, xor-cut, xor-zeros}
 use Rattle.laws.specs.Blocks.{be16, blocks}
-use Rattle.laws.specs.BlockLaws.{blocks-nil, blocks-cons}
+use Rattle.laws.specs.BlockLaws.{blocks-nil, blocks-cons, piece}
 use Rattle.ccm.specs.Ccm.{block, chain, stream, counted, head, head_blocks}
 
 module _ (E : List ℕ → List ℕ) where
@@ -23,6 +23,17 @@ module _ (E : List ℕ → List ℕ) where
   chain-turn x y l h =
       rw (blocks-cons y h)
       (ap (λ (z : List ℕ). chain E (E z) (blocks (drop 16 y))) (xor-zeros (16 - length (take 16 y)) x (take 16 y) ∙ xor-cut 16 x y (omega arith)))
+
+  -- the same for the pieces that the octets are cut into
+  pub chain-piece : (x y b r : List ℕ) → length x ≡ 16 → y ≡ b ++ r → length b ≡ min 16 (length y) → 0 < length y → chain E (E (x ⊕ b)) (blocks r) ≡ chain E x (blocks y)
+  chain-piece x y b r l e n h =
+      let p = piece y b r e n in
+      ap₂ (λ (s t : List ℕ). chain E (E (x ⊕ s)) (blocks t)) (sym p.0) (sym p.1)
+      ∙ ap (λ (z : List ℕ). chain E (E z) (blocks (drop 16 y))) (xor-cut 16 x y (omega arith)) ∙ sym (chain-turn x y l h)
+
+  pub chain-none : (x y : List ℕ) → length y ≡ 0 → chain E x (blocks y) ≡ x
+  chain-none x [] h = chain-nil x
+  chain-none x (b ∷ y) h = absurd (suc-ne-zero (length y) h)
 
   pub chain-append : (x : List ℕ) (b c : List (List ℕ)) → chain E x (b ++ c) ≡ chain E (chain E x b) c
   unfolding chain

@@ -10,7 +10,7 @@ use lib.Seq.{length-take-le, take_at, drop_at, take-add, drop-drop}
 use Rattle.laws.specs.Octets.{◌⊕◌}
 use Rattle.laws.specs.XorLaws.{xor-length, xor-twice, same_refl, same-sound}
 use Rattle.laws.specs.Blocks.{blocks}
-use Rattle.answer.specs.declared.Outcome.TheVariants.{Done}
+use Rattle.std.specs.Prelude.{Ok}
 use Rattle.aes.specs.Words.{cipher_words, key_bytes}
 use Rattle.aes.proofs.Lists.{cipher-length}
 use Rattle.ccm.specs.Ccm.{block, chain, flags₀, head_blocks, counted, head, tag_from, tag, sealed_from, sealed, vouched_from, vouched}
@@ -92,15 +92,15 @@ module _ (E : List ℕ → List ℕ) (sixteen : (b : List ℕ) → length (E b) 
         simp (length-append, length-drop) (omega (arith, c-length))
 
 -- THE ROUND TRIP, with AES: what `seal` wrote under some keys, `unseal` opens under the same keys; the payload is what it was
-module _ (w n : List ℕ) (M at k : ℕ) (s : List ℕ) (fit : fitting M at k (length s) ≡ Done) where
+module _ (w n : List ℕ) (M at k : ℕ) (s : List ℕ) (fit : fitting M at k (length s) ≡ Ok tt) where
   abbrev E : List ℕ → List ℕ
   E = cipher_words w
 
-  pub seal-unseal : unsealing E M n at k (sealed_frame E M n at k s) ≡ Done
+  pub seal-unseal : unsealing E M n at k (sealed_frame E M n at k s) ≡ Ok tt
   unfolding unsealing
   seal-unseal =
       let f = fits M at k (length s) fit in
-      rw (sealed-frame-length E (cipher-length (key_bytes w)) M n at k s f.tag f.whole, fit, sealed-frame-vouched E (cipher-length (key_bytes w)) M n at k s f.tag f.whole)
+      rw (sealed-frame-length E (cipher-length (key_bytes w)) M n at k s f.tag.1 f.whole, fit, sealed-frame-vouched E (cipher-length (key_bytes w)) M n at k s f.tag.1 f.whole)
 
   pub seal-unseal-frame : opened_frame E n at k (sealed_frame E M n at k s) ≡ take (at + k) s ++ (tag E M n (take at s) (take k (drop at s)) ++ drop (at + k + M) s)
-  seal-unseal-frame = let f = fits M at k (length s) fit in sealed-frame-opens E (cipher-length (key_bytes w)) M n at k s f.tag f.whole
+  seal-unseal-frame = let f = fits M at k (length s) fit in sealed-frame-opens E (cipher-length (key_bytes w)) M n at k s f.tag.1 f.whole

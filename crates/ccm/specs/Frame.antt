@@ -1,10 +1,9 @@
 -- A frame in one buffer s: `at` octets before the payload, which are the additional authenticated data, then k octets of payload, and
 -- then M octets of tag. What the public calls answer, and what they leave.
-use Rattle.std.specs.Prelude.{ℕ, ◌+◌, ◌%◌, Bool, cond, not, ◌&&◌, List, ◌++◌, eqb, leb, ltb, length, take, drop}
-use Rattle.answer.specs.declared.Outcome.{Outcome}
-use Rattle.answer.specs.declared.Outcome.TheVariants.{Done, Refused}
+use Rattle.std.specs.Prelude.{ℕ, ◌+◌, ◌%◌, Bool, cond, not, ◌&&◌, List, ◌++◌, Ok, Err, eqb, leb, ltb, length, take, drop}
+use Rattle.std.specs.Result.{result_and}
 use Rattle.answer.specs.declared.Refusal.TheVariants.{Unsupported, NoRoom, WrongTag}
-use Rattle.answer.specs.Numbers.{and_then}
+use Rattle.answer.specs.Numbers.{Outcome}
 use Rattle.ccm.specs.Ccm.{counted, sealed, vouched}
 
 -- RFC 3610, 2: M is 4, 6, 8, 10, 12, 14 or 16
@@ -15,10 +14,10 @@ tag_taken M = leb 4 M && (leb M 16 && eqb (M % 2) 0)
 unfoldable pub fitting : ℕ → ℕ → ℕ → ℕ → Outcome
 unfolding tag_taken
 fitting M at k room =
-    cond (not (tag_taken M)) (Refused Unsupported)
-    (cond (ltb 1024 at) (Refused Unsupported)
-    (cond (ltb 1024 k) (Refused Unsupported)
-    (cond (ltb room (at + k + M)) (Refused NoRoom) Done)))
+    cond (not (tag_taken M)) (Err Unsupported)
+    (cond (ltb 1024 at) (Err Unsupported)
+    (cond (ltb 1024 k) (Err Unsupported)
+    (cond (ltb room (at + k + M)) (Err NoRoom) (Ok tt))))
 
 module _ (E : List ℕ → List ℕ) where
   -- the frame with its payload sealed
@@ -36,4 +35,4 @@ module _ (E : List ℕ → List ℕ) where
   -- opening: as for sealing, and then a wrong tag: 5
   unfoldable pub unsealing : ℕ → List ℕ → ℕ → ℕ → List ℕ → Outcome
   unfolding fitting vouched_frame
-  unsealing M n at k s = and_then (fitting M at k (length s)) (cond (vouched_frame M n at k s) Done (Refused WrongTag))
+  unsealing M n at k s = result_and (fitting M at k (length s)) (cond (vouched_frame M n at k s) (Ok tt) (Err WrongTag))

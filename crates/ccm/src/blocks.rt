@@ -13,7 +13,7 @@ use words::{State, added, block_of, joined};
 fn octet_at(s: &[u8], i: usize) -> u8
     ensures { result ≡ get_or s.now i 0 }
 {
-    if i < s.len() { s[i] } else { 0 }
+    s.get(i).copied().unwrap_or(0)
 }
 
 // Four octets of s from i on.

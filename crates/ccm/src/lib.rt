@@ -3,6 +3,7 @@
 
 mod blocks;
 mod calls;
+mod cipher;
 mod counter;
 mod frames;
 mod mac;
