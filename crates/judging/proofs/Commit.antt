@@ -69,19 +69,19 @@ module _ (keys : NetworkKeys) (c : Claim) (s : Standing) (b : List ℕ) where
   never : {X : Type 0} {r : Refusal} → ◌≡◌ {A = Outcome} (Ok tt) (Err r) → X
   never e = let z : ◌≡◌ {A = ℕ} 0 1 = cc in absurd (omega arith)
 
-  pub judged-stale : (why : Refusal) → freshness (counter_in (held_of s)) c.counter ≡ Err why → judged_heard keys c s b ≡ refused why b
-  judged-stale why e = judged-tested ∙ at repeated behind e
+  pub judged_stale : (why : Refusal) → freshness (counter_in (held_of s)) c.counter ≡ Err why → judged_heard keys c s b ≡ refused why b
+  judged_stale why e = judged-tested ∙ at repeated behind e
     where
-      at : (x y : Bool) → cond x (Err CounterRepeated) (cond y (Err CounterBehind) (Ok tt)) ≡ Err why
+      at : (x y : Bool) → ◌≡◌ {A = Outcome} (cond x (Err CounterRepeated) (cond y (Err CounterBehind) (Ok tt))) (Err why)
           → cond x (refused CounterRepeated b) (cond y (refused CounterBehind b) (judged_fresh keys c (room_of s) b)) ≡ refused why b
       at true y q = let w : CounterRepeated ≡ why = cc in ap (λ (z : Refusal). refused z b) w
       at false true q = let w : CounterBehind ≡ why = cc in ap (λ (z : Refusal). refused z b) w
       at false false q = never q
 
-  pub judged-as-fresh : freshness (counter_in (held_of s)) c.counter ≡ Ok tt → judged_heard keys c s b ≡ judged_fresh keys c (room_of s) b
-  judged-as-fresh e = judged-tested ∙ at repeated behind e
+  pub judged_as_fresh : freshness (counter_in (held_of s)) c.counter ≡ Ok tt → judged_heard keys c s b ≡ judged_fresh keys c (room_of s) b
+  judged_as_fresh e = judged-tested ∙ at repeated behind e
     where
-      at : (x y : Bool) → cond x (Err CounterRepeated) (cond y (Err CounterBehind) (Ok tt)) ≡ Ok tt
+      at : (x y : Bool) → ◌≡◌ {A = Outcome} (cond x (Err CounterRepeated) (cond y (Err CounterBehind) (Ok tt))) (Ok tt)
           → cond x (refused CounterRepeated b) (cond y (refused CounterBehind b) (judged_fresh keys c (room_of s) b)) ≡ judged_fresh keys c (room_of s) b
       at true y q = never (sym q)
       at false true q = never (sym q)

@@ -1,5 +1,5 @@
 -- What the cipher's answer says of a frame whose level was filled in, on plain lists. Assumes nothing.
-use Rattle.std.specs.Prelude.{Err, Ok}
+use Rattle.std.specs.Prelude.{Ok, Err, is_err}
 use mathlib.Core.Path.{◌≡◌, refl, sym, ap, ◌∙◌}
 use mathlib.Core.Bool.{Bool, true, false, cond}
 use mathlib.Core.List.{List, ◌++◌, append_assoc}
@@ -9,8 +9,6 @@ use lib.ListN.{length, take, drop, get_or, set, length-set}
 use lib.Seq.{set-set, set-get_or, set-append_left, take-set-lt, drop-set-lt, length-take-le, get_or-take, take_at}
 use borrow.Author.Tests.{le-ltb}
 use Rattle.answer.specs.Numbers.{Outcome}
-use Rattle.answer.specs.declared.Refusal.{Refusal}
-use Rattle.answer.specs.declared.Refusal.TheVariants.{WrongTag}
 use Rattle.answer.specs.Numbers.{when_done}
 use Rattle.aes.specs.Schedule.{key_expansion}
 use Rattle.aes.specs.Words.{key_bytes, cipher_words}
@@ -18,9 +16,10 @@ use Rattle.ccm.specs.Ccm.{sealed}
 use Rattle.ccm.specs.Frame.{tag_taken, fitting, unsealing, sealed_frame, opened_frame}
 use Rattle.control.specs.Control.{filled}
 use Rattle.auxiliary_header.specs.Nonce.{nonce_of}
+use Rattle.protection.specs.Heard.{vouching}
 use Rattle.protection.specs.Protection.{vouches, opened_octets, secured_octets, under}
 
-fits : (at k room : ℕ) → at ≤ 1024 → k ≤ 1024 → at + k + 4 ≤ room → fitting 4 at k room ≡ (Ok tt)
+pub fits : (at k room : ℕ) → at ≤ 1024 → k ≤ 1024 → at + k + 4 ≤ room → fitting 4 at k room ≡ Ok tt
 unfolding fitting tag_taken
 fits at k room a b c = rw (le-ltb 1024 at a, le-ltb 1024 k b, le-ltb room (at + k + 4) c)
 
@@ -29,33 +28,32 @@ pub copied : (f z y : List ℕ) → y ≡ f ++ drop (length f) z → take (lengt
 copied f z y e =
     ap (take (length f)) e ∙ take_at f (drop (length f) z) (length f) refl
 
--- an outcome that a test decides
-decided : (v : Bool) (r : Outcome) (why : Refusal) → r ≡ cond v (Ok tt) (Err why) → r ≡ (Ok tt) → true ≡ v
-decided true r why e d = refl
-decided false r why e d = let z : ◌≡◌ {A = ℕ} 0 1 = cc in absurd (omega arith)
-
-undecided : (v : Bool) (r : Outcome) (why q : Refusal) → r ≡ cond v (Ok tt) (Err why) → r ≡ Err q → false ≡ v
-undecided true r why q e d = let z : ◌≡◌ {A = ℕ} 0 1 = cc in absurd (omega arith)
-undecided false r why q e d = refl
-
 module _ (w key : List ℕ) (same : key_bytes w ≡ key_expansion key) (sender counter at payload : ℕ) (b : List ℕ) (room : payload + 4 ≤ length b)
     (size : length b ≤ 1024) (n : List ℕ) (v : ℕ) (is-filled : v ≡ filled (get_or b at 0) 5) (is-nonce : n ≡ nonce_of sender counter v) (r : Outcome) (x : List ℕ)
     (answered : r ≡ unsealing (cipher_words w) 4 n payload (length b - 4 - payload) (set b at v))
     (left : x ≡ when_done r (opened_frame (cipher_words w) n payload (length b - 4 - payload) (set b at v)) (set b at v)) where
-  answer-is : r ≡ cond (vouches key sender counter at payload b) (Ok tt) (Err WrongTag)
+  pub answer-is : r ≡ vouching (vouches key sender counter at payload b)
   unfolding unsealing vouches
   answer-is =
-      let f : fitting 4 payload (length b - 4 - payload) (length (set b at v)) ≡ (Ok tt) = fits payload (length b - 4 - payload) (length (set b at v)) (omega arith) (omega arith) (rw length-set (omega arith)) in
+      let f : fitting 4 payload (length b - 4 - payload) (length (set b at v)) ≡ Ok tt = fits payload (length b - 4 - payload) (length (set b at v)) (omega arith) (omega arith) (rw length-set (omega arith)) in
       answered ∙ rw (f, same, is-nonce, is-filled)
 
-  pub right : r ≡ (Ok tt) → (true ≡ vouches key sender counter at payload b) × (x ≡ opened_octets key sender counter at payload b)
+  -- where the tag is right
+  pub opens : is_err r ≡ false → x ≡ when_done r (opened_octets key sender counter at payload b) b
   unfolding opened_octets
-  right d = (decided (vouches key sender counter at payload b) r WrongTag answer-is d, left ∙ rw (d, same, is-nonce, is-filled))
+  opens = by r refl
+    where
+      by : (q : Outcome) → r ≡ q → is_err q ≡ false → x ≡ when_done q (opened_octets key sender counter at payload b) b
+      by (Ok tt) d e = left ∙ rw (d, same, is-nonce, is-filled)
+      by (Err why) d e = let z : ◌≡◌ {A = ℕ} 0 1 = cc in absurd (omega arith)
 
-  pub wrong : (q : Refusal) → r ≡ Err q → (false ≡ vouches key sender counter at payload b) × (set x at (get_or b at 0) ≡ b)
-  wrong q d =
-      let kept : x ≡ set b at v = left ∙ rw d in
-      (undecided (vouches key sender counter at payload b) r WrongTag q answer-is d, rw (kept, set-set b at v (get_or b at 0), set-get_or b at 0))
+  -- where it is wrong, and the control byte is put back
+  pub keeps : is_err r ≡ true → set x at (get_or b at 0) ≡ when_done r (opened_octets key sender counter at payload b) b
+  keeps = by r refl
+    where
+      by : (q : Outcome) → r ≡ q → is_err q ≡ true → set x at (get_or b at 0) ≡ when_done q (opened_octets key sender counter at payload b) b
+      by (Ok tt) d e = let z : ◌≡◌ {A = ℕ} 0 1 = cc in absurd (omega arith)
+      by (Err why) d e = let kept : x ≡ set b at v = left ∙ rw d in rw (kept, set-set b at v (get_or b at 0), set-get_or b at 0)
 
 -- a frame sealed after headers whose control byte was filled in, and cleared again
 module _ (w key : List ℕ) (same : key_bytes w ≡ key_expansion key) (sender counter at payload k : ℕ) (b : List ℕ) (inside : at < payload) (head : payload ≤ 1024)
@@ -64,7 +62,7 @@ module _ (w key : List ℕ) (same : key_bytes w ≡ key_expansion key) (sender c
     (left : x ≡ when_done r (sealed_frame (cipher_words w) 4 n payload k (set b at v)) (set b at v)) where
   sealed-is : x ≡ sealed_frame (under key) 4 n payload k (set b at v)
   sealed-is =
-      let f : r ≡ (Ok tt) = answered ∙ fits payload k (length (set b at v)) head text (rw length-set (omega arith)) in
+      let f : r ≡ Ok tt = answered ∙ fits payload k (length (set b at v)) head text (rw length-set (omega arith)) in
       left ∙ rw (f, same)
 
   pub secured : set x at (get_or b at 0) ≡ secured_octets key sender counter at (take payload b) (take k (drop payload b)) ++ drop (payload + k + 4) b

@@ -1,4 +1,3 @@
 -- In reading order.
-pub mod Keys
 pub mod Protection
 pub mod Heard

@@ -61,6 +61,7 @@ impl Envelope {
     }
 
     // Whether the frame's tag is right; the frame itself is left alone.
+    #[tactic(auto, using(crate::proofs::Answers::copied))]
     pub fn vouch(self, frame: &[u8]) -> Result<(), Refusal>
         requires { (self.at < self.payload) × (self.payload + 4 ≤ length frame.now) × (length frame.now ≤ 1024) }
         ensures { result ≡ vouching (vouches self.key self.sender self.counter self.at self.payload frame.now) }
@@ -72,6 +73,7 @@ impl Envelope {
     }
 
     // The tag is checked before the room for a new row; without room nothing is opened.
+    #[tactic(auto, unfolding(crate::specs::Heard::tried))]
     pub fn open(self, room: bool, frame: &mut [u8]) -> Answer
         requires { (self.at < self.payload) × (self.payload + 4 ≤ length frame.old) × (length frame.old ≤ 1024) }
         ensures value { result ≡ (tried self.key self.sender self.counter self.at self.payload room frame.old).answer }
@@ -98,7 +100,7 @@ impl Envelope {
         let control = Control { byte: sent }.filled(LEVEL);
         let nonce = auxiliary_header::nonce(self.sender, self.counter, control);
         out[self.at] = control.byte;
-        ccm::seal(&keys, nonce, TAG, out, self.payload, n);
+        ccm::seal(&keys, nonce, TAG, out, self.payload, n).unwrap();
         out[self.at] = sent;
     }
 }
