@@ -5,17 +5,15 @@
 ghost use Rattle.std.specs.Prelude.{◌≡◌};
 ghost use Rattle.nib.specs.Sending.{took, taken};
 
+use answer::Refusal;
 use by_value::take_with;
-use nib::{Outgoing, Taken};
+use nib::Outgoing;
 
-// The last counter is never handed out: then the record stays as it is, and 0 is handed back.
-pub fn take(outgoing: &mut Outgoing) -> Taken
+// The last counter is never handed out: then the record stays as it is.
+pub fn take(outgoing: &mut Outgoing) -> Result<u32, Refusal>
     ensures { took result outgoing.new ≡ taken outgoing.old }
 {
-    let taken = take_with(*outgoing);
-    *outgoing = taken.outgoing;
-    Taken {
-        outcome: taken.outcome,
-        counter: taken.counter,
-    }
+    let (counter, left) = take_with(*outgoing)?;
+    *outgoing = left;
+    Ok(counter)
 }

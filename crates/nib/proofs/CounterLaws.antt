@@ -1,6 +1,6 @@
 -- What is held and what a call leaves, by the place that a search yields. Assumes nothing.
-use Rattle.std.specs.Prelude.{◌≡◌, ℕ, suc, ◌+◌, ◌<◌, ◌≤◌, Bool, true, false, cond, ltb, Option, None, Some, Result, Ok, Err, position, List, ◌++◌, length, take, drop, nat_lt, slice_index_or, slice_set, refl}
-use Rattle.std.proofs.Common.{sym, ap, ◌∙◌, arith, add-one, length-set, take-append-drop, length-take-le, drop-set-lt}
+use Rattle.std.specs.Prelude.{◌≡◌, ℕ, suc, ◌+◌, ◌<◌, ◌≤◌, Bool, true, false, cond, ltb, Option, None, Some, Result, Ok, Err, is_ok, position, List, ◌++◌, length, take, drop, nat_lt, slice_index_or, slice_set, refl}
+use Rattle.std.proofs.Common.{sym, ap, ◌∙◌, true≢false, arith, add-one, length-set, take-append-drop, length-take-le, drop-set-lt}
 use Rattle.std.proofs.Math.Decide.{dec_le}
 use Rattle.std.proofs.Math.Seq.{take-append_seam}
 use borrow.Author.Tests.{lt-ltb, le-ltb}
@@ -13,7 +13,7 @@ use Rattle.cells.proofs.Search.{lent-le, lent_row, lent-cell, lent-put, place-so
 use Rattle.nib.specs.declared.counters.CounterRow.{CounterRow}
 use Rattle.nib.specs.declared.counters.Standing.TheVariants.{Held, Free, Full}
 use Rattle.nib.specs.Pairs.{Pair, same-pair-eq}
-use Rattle.nib.specs.Counters.{Cell, counter_rows, row_pair, row_cell, row_of, capacity, overfull, held_for, over, After, left, refused, placed, empty, kept, closed, forgotten}
+use Rattle.nib.specs.Counters.{Cell, counter_rows, row_pair, row_cell, row_of, capacity, overfull, held_for, over, After, left, refused, placed, settled, empty, kept, closed, forgotten}
 
 module _ (rows : List CounterRow) (used : ℕ) (k : Pair) where
   abbrev pub at : ℕ
@@ -145,6 +145,49 @@ module _ (rows : List CounterRow) (used n : ℕ) where
   pub forgotten-closed : used ≤ capacity (length rows) → forgotten rows used n ≡ record { outcome = Ok tt; used = length (kept n used rows); rows = closed n used rows }
   unfolding forgotten
   forgotten-closed h = rw (le-ltb (capacity (length rows)) used h)
+
+-- ---- a refusal leaves the rows and the count in use as they were
+
+module _ (rows : List CounterRow) (used : ℕ) where
+  abbrev Stays : After → Type 0
+  Stays a = (why : Refusal) → a.outcome ≡ Err why → (used ≡ a.used) × (rows ≡ a.rows)
+
+  placed-stays : (k : Pair) (c : Cell) → Stays (placed rows used k c)
+  unfolding placed
+  placed-stays k c = go (overfull rows used) (room counter_rows (capacity (length rows)) (take used rows) k)
+    where
+      table : List CounterRow
+      table = put counter_rows (take used rows) k c
+
+      go : (b d : Bool) → Stays (cond b (refused Unsupported used rows) (cond d (record { outcome = Ok tt; used = length table; rows = over table rows }) (refused TableFull used rows)))
+      go true d why e = (refl, refl)
+      go false true why e = absurd (true≢false (ap is_ok e))
+      go false false why e = (refl, refl)
+
+  settled-stays : (change : Option CounterRow) → Stays (settled rows used change)
+  unfolding settled
+  settled-stays None why e = absurd (true≢false (ap is_ok e))
+  settled-stays (Some row) why e = placed-stays (row_pair row) (row_cell row) why e
+
+  forgotten-stays : (n : ℕ) → Stays (forgotten rows used n)
+  unfolding forgotten
+  forgotten-stays n = go (overfull rows used)
+    where
+      go : (b : Bool) → Stays (cond b (refused Unsupported used rows) (record { outcome = Ok tt; used = length (kept n used rows); rows = closed n used rows }))
+      go true why e = (refl, refl)
+      go false why e = absurd (true≢false (ap is_ok e))
+
+  unmoved : (a : After) → Stays a → (why : Refusal) (l : List CounterRow) → refused why used l ≡ a → refused why used rows ≡ a
+  unmoved a s why l e =
+      let p = s why (sym (ap (λ (x : After). x.outcome) e)) in
+      λ i. record { outcome = (e i).outcome; used = p.0 i; rows = p.1 i }
+
+  pub settled-unmoved : (change : Option CounterRow) (why : Refusal) (l : List CounterRow) → refused why used l ≡ settled rows used change
+      → refused why used rows ≡ settled rows used change
+  settled-unmoved change = unmoved (settled rows used change) (settled-stays change)
+
+  pub forgotten-unmoved : (n : ℕ) (why : Refusal) (l : List CounterRow) → refused why used l ≡ forgotten rows used n → refused why used rows ≡ forgotten rows used n
+  forgotten-unmoved n = unmoved (forgotten rows used n) (forgotten-stays n)
 
 -- ---- a promise of what a call leaves allows one answer, and one content of the rows
 

@@ -3,10 +3,10 @@ use Rattle.std.proofs.Common.{sym, ◌∙◌}
 use Rattle.nib.specs.Sending.{taken}
 use Rattle.by_value.proofs.take_with.Goals as goal
 
-pub returns-then-usable : goal.returns-then-usable
+pub returns-then-not-usable : goal.returns-then-not-usable
 unfolding taken
-returns-then-usable c = rw (c.sending-next.ensures, sym c.usable.ensures ∙ c.if-usable.true)
+returns-then-not-usable c = rw (sym c.usable.ensures ∙ c.if-not-usable.true)
 
 pub returns : goal.returns
 unfolding taken
-returns c = rw (sym c.usable.ensures ∙ c.if-usable.false)
+returns c = rw (c.sending.ensures, sym c.usable.ensures ∙ c.if-not-usable.false)
