@@ -14,7 +14,7 @@ use Rattle.control.specs.Control.{filled, identifier_of, has_sender, has_number}
 use Rattle.control.specs.ControlLaws.{filled-sender, filled-number, is_network, number-of-network}
 use Rattle.auxiliary_header.specs.Auxiliary.{sender_length, number_length, auxiliary_length, sender_if, key_used, fields, fields_at, auxiliary_at, sender_octets, number_octets, auxiliary_octets}
 use Rattle.auxiliary_header.specs.Written.{written}
-use Rattle.auxiliary_header.specs.WrittenLaws.{put}
+use Rattle.auxiliary_header.specs.WrittenLaws.{put, stored}
 use Rattle.control.specs.declared.KeyIdentifier.{KeyIdentifier}
 use Rattle.control.specs.declared.KeyIdentifier.TheVariants as identifier
 use Rattle.auxiliary_header.specs.declared.auxiliary.KeyUsed.TheVariants as used
@@ -138,3 +138,9 @@ written_back out at control counter sender number counter-fits sender-fits h =
     let room : at + length octets ≤ length out = rw (octets-length control counter sender number) h in
     ap (λ (s : List ℕ). auxiliary_at s at) (put out at octets room)
     ∙ read_back (take at out) (drop (at + length octets) out) at control counter sender number (length-take-le at out (omega arith)) counter-fits sender-fits
+
+-- ---- what the check takes of these laws
+
+pub ruleset lengths = (octets-length, stored)
+
+pub ruleset networks = (number-of-network)

@@ -9,6 +9,7 @@ use lib.Seq.{drop-cons, sets, sets-eq}
 use borrow.Rule.Slice.PartMut.{put_mid, Post-is}
 use Rattle.std.specs.Int.{w32, w64, to_le_bytes, bytes_low_first}
 use Rattle.laws.specs.Numbers.{value, low, field}
+use Rattle.laws.specs.NumberLaws.{low-length}
 
 -- the field from one place further down
 field_step : (s : List ℕ) (at count : ℕ) → at < length s → field s at (suc count) ≡ get_or s at 0 + 256 * field s (suc at) count
@@ -59,7 +60,7 @@ copied s new octets at h e =
     ap₂ (λ (n rest : List ℕ). take at s ++ (n ++ rest)) e (Post-is at (at + length octets) s (omega arith)) ∙ sym (sets-eq octets s at h ∙ append_assoc (take at s) octets (drop (at + length octets) s))
 
 -- two strings stored one after the other
-sets-append : (s a b : List ℕ) (i : ℕ) → sets s i (a ++ b) ≡ sets (sets s i a) (i + length a) b
+pub sets-append : (s a b : List ℕ) (i : ℕ) → sets s i (a ++ b) ≡ sets (sets s i a) (i + length a) b
 sets-append s [] b i = rw (add-zero i)
 sets-append s (x ∷ a) b i =
     let next : suc i + length a ≡ i + suc (length a) = omega arith in
@@ -72,3 +73,6 @@ stored_next s a b m n i j here first then = rw (sets-append s a b i, ← here, �
 pub stored-whole : (s a : List ℕ) → length a ≡ length s → sets s 0 a ≡ a
 stored-whole s a e =
     sets-eq a s 0 (omega arith) ∙ rw (zero-add (length a), drop_of_length-le s {i = length a} (omega arith), append-nil a)
+
+-- strings put one after the other
+pub ruleset stores = (octets_4, octets_8, sets-append, stored-whole, low-length)

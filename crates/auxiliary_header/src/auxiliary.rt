@@ -59,6 +59,7 @@ fn sender_at(s: &[u8], at: usize, control: Control) -> Option<u64>
     }
 }
 
+#[tactic(auto, using(crate::proofs::AuxiliaryLaws::networks))]
 fn key_at(s: &[u8], at: usize, control: Control) -> KeyUsed
     requires { at + number_length control.byte ≤ length s.now }
     ensures { result ≡ key_used (identifier_of control.byte) (get_or s.now at 0) }
@@ -72,6 +73,7 @@ fn key_at(s: &[u8], at: usize, control: Control) -> KeyUsed
 }
 
 // The auxiliary header that starts at `at`, any place at all.
+#[tactic(auto, using(crate::proofs::AuxiliaryLaws::lengths), unfolding(crate::specs::Auxiliary::auxiliary_at))]
 pub fn read(s: &[u8], at: usize) -> Result<Auxiliary, Refusal>
     ensures { result ≡ auxiliary_at s.now at }
 {
@@ -90,6 +92,7 @@ pub fn read(s: &[u8], at: usize) -> Result<Auxiliary, Refusal>
     })
 }
 
+#[tactic(auto, using(crate::proofs::Turns::octets_8))]
 fn put_sender(out: &mut [u8], at: usize, control: Control, sender: u64)
     requires { at + sender_length control.byte ≤ length out.old }
     ensures { out.new ≡ sets out.old at (sender_octets control.byte sender) }
@@ -120,6 +123,8 @@ fn put_all(out: &mut [u8], at: usize, control: Control, counter: u32, sender: u6
 }
 
 // Writes the auxiliary header from `at` on. Sender and number are used only where the control byte says that they are present.
+// The new form is no plainer: a struct of the four values would be built at each call and taken apart here, as each caller has them apart.
+#[tactic(auto, using(crate::proofs::AuxiliaryLaws::lengths), unfolding(crate::specs::Written::written, crate::specs::Written::outcome_of))]
 pub fn write(
     out: &mut [u8],
     at: usize,

@@ -6,6 +6,7 @@ use crate::numbers::put;
 use control::Control;
 
 // The control byte goes in as it is given: the caller has filled the level in.
+#[tactic(auto, using(crate::proofs::Turns::stores), unfolding(crate::specs::Nonce::nonce_of))]
 pub fn nonce(sender: u64, counter: u32, control: Control) -> [u8; 13]
     ensures { result ≡ nonce_of sender counter control.byte }
 {

@@ -16,6 +16,7 @@ pub fn number_at(s: &[u8], at: usize, count: usize) -> u64
 }
 
 // Puts octets to s, from `at` on.
+#[tactic(auto, using(crate::proofs::Turns::copied))]
 pub(crate) fn put(s: &mut [u8], at: usize, octets: &[u8])
     requires { at + length octets.now ≤ length s.old }
     ensures { s.new ≡ sets s.old at octets.now }

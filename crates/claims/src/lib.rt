@@ -40,7 +40,7 @@ pub fn number_of(key: KeyUsed) -> u8
     }
 }
 
-// The sizes that are taken.
+// Four bytes at least, and no more than 1,024.
 fn sized(frame: &[u8]) -> Result<(), Refusal>
     ensures { result ≡ sized frame.now }
 {

@@ -47,6 +47,7 @@ impl From<NwkKind> for u8 {
 }
 
 // The first two octets, low octet first.
+#[tactic(auto, using(crate::proofs::Sizes::octets))]
 fn control_of(s: &[u8]) -> u16
     requires { 2 ≤ length s.now }
     ensures { result ≡ field s.now 0 2 }
@@ -89,6 +90,7 @@ fn relays_length(s: &[u8], at: usize, control: u16) -> usize
     2 + 2 * (s[at] as usize)
 }
 
+#[tactic(auto, using(crate::proofs::Sizes::sizes), unfolding(crate::specs::Nwk::nwk_of, crate::specs::Nwk::nwk_length))]
 pub fn nwk(s: &[u8]) -> Result<NwkHeader, Refusal>
     ensures { result ≡ nwk_of s.now }
 {
