@@ -10,6 +10,7 @@ use lib.ListN.{length, drop}
 use borrow.Author.Tests.{ltb-false, leb-true, not-false}
 use Rattle.std.specs.Prelude.{Result, Ok, Err, is_some}
 use Rattle.laws.specs.Numbers.{bit}
+use Rattle.answer.specs.Numbers.{Outcome}
 use Rattle.answer.specs.declared.Accepted.TheVariants.{Done}
 use Rattle.answer.specs.declared.Refusal.{Refusal}
 use Rattle.answer.specs.declared.Refusal.TheVariants.{Unsupported, Cut, NoNetworkKey, CounterExhausted, NoRoom}
@@ -153,5 +154,6 @@ module _ (s : Nwk) (o : Outgoing) (plain out : List ℕ) where
     -- no counter that may be used is refused
     pub taken-is : (r : Result ℕ Refusal) (o' : Outgoing) (why : Refusal) → took r o' ≡ taken o → r ≡ Err why → ⊥
     taken-is r o' why k e =
-        let w : record { outcome = Err why; counter = 0; outgoing = o' } ≡ record { outcome = Ok tt; counter = o.next; outgoing = record { next = o.next + 1 } } = (ap (λ (x : Result ℕ Refusal). took x o') (sym e) ∙ k) ∙ takes in
+        let w : ◌≡◌ {A = AfterTaking} (record { outcome = Err why; counter = 0; outgoing = o' }) (record { outcome = Ok tt; counter = o.next; outgoing = record { next = o.next + 1 } }) = (ap (λ (x : Result ℕ Refusal). took x o') (sym e) ∙ k) ∙ takes in
+        let v : ◌≡◌ {A = Outcome} (Err why) (Ok tt) = ap (λ (x : AfterTaking). x.outcome) w in
         let z : ◌≡◌ {A = ℕ} 0 1 = cc in absurd (omega arith)
