@@ -1,11 +1,9 @@
 -- The pair rows (document 01, 'The state', 'Opening APS' and 'Securing APS'): a table of rows, each for a device.
-use Rattle.std.specs.Prelude.{refl, Bool, true, false, ◌&&◌, List, [], ◌∷◌, ℕ, eqb, leb, take, replicate}
-use Rattle.std.specs.Prelude.{Option, None, Some}
+use Rattle.std.specs.Prelude.{refl, Bool, ◌&&◌, List, [], ◌∷◌, ℕ, eqb, leb, take, Option, option_map}
 use Rattle.std.proofs.Common.{eq-eqb, eqb-true}
 use Rattle.cells.specs.Rows.{Rows, find}
 use Rattle.aib.specs.declared.pairs.PairRow.{PairRow}
 use Rattle.aib.specs.declared.pairs.Pairs.{Pairs}
-use Rattle.aib.specs.declared.search.PairFound.{PairFound}
 use Rattle.cells.specs.First.{first}
 
 -- key attributes and link key types
@@ -61,24 +59,13 @@ new_row d counter = row_of d (new_pair counter)
 
 -- ---- searches among the rows in use
 
-abbrev pub nothing : PairFound
-nothing = record { found = false; row = row_of 0 (record { attribute = 0; key = replicate 16 0; kind = 0; outgoing = 0; incoming = 0 }) }
-
 -- opening: the first row of that device
-abbrev pub answered : ℕ → Option PairCell → PairFound
-answered d None = nothing
-answered d (Some p) = record { found = true; row = row_of d p }
-
-unfoldable pub pair_found : Pairs → ℕ → PairFound
-pair_found pairs d = answered d (find pair_rows (take pairs.used pairs.rows) d)
+unfoldable pub pair_found : Pairs → ℕ → Option PairRow
+pair_found pairs d = option_map (row_of d) (find pair_rows (take pairs.used pairs.rows) d)
 
 -- securing: the first row of that device with attribute 0, 1 or 2
 abbrev pub may_use : ℕ → PairRow → Bool
 may_use d r = eqb r.device d && leb r.attribute verified
 
-abbrev pub answered_row : Option PairRow → PairFound
-answered_row None = nothing
-answered_row (Some r) = record { found = true; row = r }
-
-unfoldable pub usable_found : Pairs → ℕ → PairFound
-usable_found pairs d = answered_row (first (may_use d) (take pairs.used pairs.rows))
+unfoldable pub usable_found : Pairs → ℕ → Option PairRow
+usable_found pairs d = first (may_use d) (take pairs.used pairs.rows)

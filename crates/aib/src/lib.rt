@@ -6,8 +6,8 @@ mod counters;
 mod pairs;
 mod search;
 
-pub use counters::{Advanced, Recorded, advance, record};
+pub use counters::{advance, record};
 pub use pairs::{
     GLOBAL, PROVISIONAL, PairRow, Pairs, TRUST_CENTER_LINK_KEY, UNIQUE, UNVERIFIED, VERIFIED,
 };
-pub use search::{PairFound, find, usable};
+pub use search::{find, usable};

@@ -1,8 +1,10 @@
 // The pair rows (document 01, 'The state'): what is shared with each device.
+// No Debug and no PartialEq: a key is not printed, and is not compared byte by byte up to the first difference.
 ghost use Rattle.std.specs.Prelude.{◌≡◌};
-ghost use Rattle.aib.specs.Pairs.{new_row};
+ghost use Rattle.aib.specs.Pairs.{new_row, may_use};
 
 // Key attributes; every other number is reserved.
+// Numbers and no enum, here and for the link key types: the C interface holds them (PairRow in the calls on APS).
 pub const PROVISIONAL: u8 = 0;
 
 pub const UNVERIFIED: u8 = 1;
@@ -28,6 +30,15 @@ pub struct PairRow {
     pub kind: u8,
     pub outgoing: u32,
     pub incoming: u32,
+}
+
+impl PairRow {
+    // It is the device's, and its key may be used: it is provisional, unverified or verified.
+    pub(crate) fn sends_to(&self, device: u64) -> bool
+        ensures { result ≡ may_use device self.now }
+    {
+        self.device == device && self.attribute <= VERIFIED
+    }
 }
 
 // Of the rows the first `used` are in use.

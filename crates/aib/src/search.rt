@@ -1,101 +1,48 @@
-// Searches for a device's row: each takes the first that matches.
-ghost use Rattle.std.specs.Prelude.{◌≡◌, ◌≤◌, min, take};
-ghost use Rattle.cells.specs.Rows.{place_of};
-ghost use Rattle.cells.specs.First.{first_where};
-ghost use Rattle.aib.specs.Pairs.{nothing, pair_rows, may_use, pair_found, usable_found};
+// Searches for a device's row: each takes the first that matches. A count above 16 finds in the 16 rows that there are.
+ghost use Rattle.std.specs.Prelude.{◌≡◌, position, take};
+ghost use Rattle.cells.specs.Rows.{is_row};
+ghost use Rattle.aib.specs.Pairs.{pair_rows, may_use, pair_found, usable_found};
 
-use crate::pairs::{PairRow, Pairs, VERIFIED};
+use crate::pairs::{PairRow, Pairs};
 
-// A row of zeros where none is found.
-#[derive(Clone, Copy)]
-pub struct PairFound {
-    pub found: bool,
-    pub row: PairRow,
+// The rows in use: no more than there are.
+fn in_use(pairs: &Pairs) -> &[PairRow]
+    ensures { result.now ≡ take pairs.now.used pairs.now.rows }
+{
+    let used = pairs.used.min(16);
+    &pairs.rows[..used]
 }
 
-fn none() -> PairFound
-    ensures { result ≡ nothing }
+// The place of the device's first row.
+pub(crate) fn place_of(pairs: &Pairs, device: u64) -> Option<usize>
+    ensures { result ≡ position (is_row pair_rows device) (take pairs.now.used pairs.now.rows) }
 {
-    PairFound {
-        found: false,
-        row: PairRow {
-            device: 0,
-            attribute: 0,
-            key: [0; 16],
-            kind: 0,
-            outgoing: 0,
-            incoming: 0,
-        },
-    }
+    in_use(pairs).iter().position(|row| row.device == device)
 }
 
-// How many rows are in use: no more than there are.
-fn in_use(pairs: Pairs) -> usize
-    ensures { result ≡ min pairs.used 16 }
+// The place of the device's first row by which a frame may be sent.
+pub(crate) fn usable_place(pairs: &Pairs, device: u64) -> Option<usize>
+    ensures { result ≡ position (may_use device) (take pairs.now.used pairs.now.rows) }
 {
-    if pairs.used < 16 { pairs.used } else { 16 }
+    in_use(pairs).iter().position(|row| row.sends_to(device))
 }
 
-// The place of the device's first row among the first `used`, or `used`.
-pub(crate) fn place_of(pairs: Pairs, used: usize, device: u64) -> usize
-    requires { used ≤ 16 }
-    ensures { result ≡ place_of pair_rows (take used pairs.rows) device }
+// The row by which a frame from the device is opened.
+pub fn find(pairs: &Pairs, device: u64) -> Option<PairRow>
+    ensures { result ≡ pair_found pairs.now device }
 {
-    let mut i: usize = 0;
-    loop {
-        if i == used {
-            break used;
-        }
-        if pairs.rows[i].device == device {
-            break i;
-        }
-        i += 1;
-    }
+    in_use(pairs)
+        .iter()
+        .find(|row| row.device == device)
+        .copied()
 }
 
-// The place of the device's first row whose key may be used (provisional, unverified or verified) among the first `used`, or `used`.
-pub(crate) fn usable_place(pairs: Pairs, used: usize, device: u64) -> usize
-    requires { used ≤ 16 }
-    ensures { result ≡ first_where (may_use device) (take used pairs.rows) }
+// The row by which a frame to the device is secured.
+pub fn usable(pairs: &Pairs, device: u64) -> Option<PairRow>
+    ensures { result ≡ usable_found pairs.now device }
 {
-    let mut i: usize = 0;
-    loop {
-        if i == used {
-            break used;
-        }
-        if pairs.rows[i].device == device {
-            if pairs.rows[i].attribute <= VERIFIED {
-                break i;
-            }
-        }
-        i += 1;
-    }
-}
-
-// The row by which a frame from the device is opened. A count above 16 finds in the 16 rows that there are.
-pub fn find(pairs: Pairs, device: u64) -> PairFound
-    ensures { result ≡ pair_found pairs device }
-{
-    let used = in_use(pairs);
-    let at = place_of(pairs, used, device);
-    if at == used {
-        none()
-    } else {
-        let row = pairs.rows[at];
-        PairFound { found: true, row }
-    }
-}
-
-// The row by which a frame to the device is secured. A count above 16 finds in the 16 rows that there are.
-pub fn usable(pairs: Pairs, device: u64) -> PairFound
-    ensures { result ≡ usable_found pairs device }
-{
-    let used = in_use(pairs);
-    let at = usable_place(pairs, used, device);
-    if at == used {
-        none()
-    } else {
-        let row = pairs.rows[at];
-        PairFound { found: true, row }
-    }
+    in_use(pairs)
+        .iter()
+        .find(|row| row.sends_to(device))
+        .copied()
 }

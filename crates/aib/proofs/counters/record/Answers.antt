@@ -1,61 +1,30 @@
--- `aib::counters::record` meets its contract, by the place that the search yields. Assumes nothing.
-use Prim.Native.Nat.{◌+◌}
-use native.Mathlib.Omega.{arith}
-use borrow.Author.Rules.{rules}
-use mathlib.Core.Path.{◌≡◌, sym, ◌∙◌}
-use lib.ListN.{length, get_or, set}
-use Rattle.answer.specs.declared.Outcome.TheVariants.{Done}
-use Rattle.aib.specs.PairLaws.{updated, heard-le, recorded-over, recorded-full, recorded-new, recorded-old}
-use Rattle.aib.proofs.Rows.{past}
+-- `aib::counters::record` meets its contract, by what `position` gives of the rows in use. Assumes nothing.
+use Rattle.std.specs.Prelude.{◌≡◌, ◌+◌, length, set, Ok}
+use Rattle.std.proofs.Common.{sym, ap, ◌∙◌, rules}
+use Rattle.aib.specs.declared.pairs.PairRow.{PairRow}
+use Rattle.aib.specs.Counters.{recording}
+use Rattle.aib.specs.PairLaws.{recorded-over}
+use Rattle.aib.proofs.Places.{heard_known, heard_new, heard_full}
 use Rattle.aib.proofs.counters.record.Goals as goal
 
 pub returns-then-used-gt16 : goal.returns-then-used-gt16
-returns-then-used-gt16 c = recorded-over c.args.pairs c.args.device c.args.counter c.if-used-gt16.true
+returns-then-used-gt16 c = recorded-over c.args.pairs.now c.args.device c.args.counter c.if-used-gt16.true
 
-pub returns-then-at-eq16 : goal.returns-then-at-eq16
-returns-then-at-eq16 c =
+pub returns-in-Some : goal.returns-in-Some
+returns-in-Some c =
     let x = c.args in
-    let sixteen : length x.pairs.rows ≡ 16 = search rules in
-    recorded-full x.pairs x.device past sixteen c.if-used-gt16.false x.counter (sym c.place_of-at.ensures ∙ c.if-at-eq16.true)
+    let sixteen : length x.pairs.now.rows ≡ 16 = search rules in
+    heard_known x.pairs.now x.device sixteen c.if-used-gt16.false x.counter c.in-Some.at (sym c.place_of.ensures ∙ c.in-Some.is)
 
-pub offset_bounds-pairs-at-2 : goal.offset_bounds-pairs-at-2
-offset_bounds-pairs-at-2 c =
+pub returns-in-None : goal.returns-in-None
+returns-in-None c =
     let x = c.args in
-    let sixteen : length x.pairs.rows ≡ 16 = search rules in
-    omega (arith, heard-le x.pairs x.device past sixteen c.if-used-gt16.false, c.place_of-at.ensures)
+    let sixteen : length x.pairs.now.rows ≡ 16 = search rules in
+    ap (λ (r : PairRow). recording (Ok tt) (record { rows = set x.pairs.now.rows x.pairs.now.used r; used = x.pairs.now.used + 1 })) c.new_row.ensures
+    ∙ heard_new x.pairs.now x.device sixteen c.if-used-gt16.false x.counter (sym c.place_of.ensures ∙ c.in-None.is) c.if-used-lt16.true
 
-pub offset_bounds-pairs-at-3 : goal.offset_bounds-pairs-at-3
-offset_bounds-pairs-at-3 c =
+pub returns-in-None-2 : goal.returns-in-None-2
+returns-in-None-2 c =
     let x = c.args in
-    let sixteen : length x.pairs.rows ≡ 16 = search rules in
-    omega (arith, heard-le x.pairs x.device past sixteen c.if-used-gt16.false, c.place_of-at.ensures)
-
-pub returns-then-at-used : goal.returns-then-at-used
-returns-then-at-used c =
-    let x = c.args in
-    let sixteen : length x.pairs.rows ≡ 16 = search rules in
-    let e = c.place_of-at.ensures in
-    (λ i. record { outcome = Done; pairs = record { rows = set x.pairs.rows (e i) (c.new_row-new.ensures i); used = x.pairs.used + 1 } })
-    ∙ recorded-new x.pairs x.device past sixteen c.if-used-gt16.false x.counter
-    (sym e ∙ c.if-at-used.true) (λ q. c.if-at-eq16.false (e ∙ q))
-
-pub bounds-pairs-at-2 : goal.bounds-pairs-at-2
-bounds-pairs-at-2 c =
-    let x = c.args in
-    let sixteen : length x.pairs.rows ≡ 16 = search rules in
-    omega (arith, heard-le x.pairs x.device past sixteen c.if-used-gt16.false, c.place_of-at.ensures)
-
-pub bounds-pairs-at-3 : goal.bounds-pairs-at-3
-bounds-pairs-at-3 c =
-    let x = c.args in
-    let sixteen : length x.pairs.rows ≡ 16 = search rules in
-    omega (arith, heard-le x.pairs x.device past sixteen c.if-used-gt16.false, c.place_of-at.ensures)
-
-pub returns : goal.returns
-returns c =
-    let x = c.args in
-    let sixteen : length x.pairs.rows ≡ 16 = search rules in
-    let e = c.place_of-at.ensures in
-    (λ i. record { outcome = Done; pairs = record { rows = set x.pairs.rows (e i) (updated (get_or x.pairs.rows (e i) past) x.counter); used = x.pairs.used } })
-    ∙ recorded-old x.pairs x.device past sixteen c.if-used-gt16.false x.counter
-    (omega (arith, heard-le x.pairs x.device past sixteen c.if-used-gt16.false))
+    let sixteen : length x.pairs.now.rows ≡ 16 = search rules in
+    heard_full x.pairs.now x.device sixteen c.if-used-gt16.false x.counter (sym c.place_of.ensures ∙ c.in-None-2.is) c.if-used-lt16.false
