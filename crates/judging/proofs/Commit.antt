@@ -10,6 +10,7 @@ use lib.ListN.{length, take, take-append-drop}
 use lib.Seq.{length-take-le}
 use borrow.Author.Tests.{le-ltb, ltb-false}
 use Rattle.std.specs.Prelude.{Option, Some, None, Result, Ok, Err}
+use Rattle.std.specs.Result.{result_unwrap_or}
 use Rattle.std.proofs.lemmas.Option.{none-some}
 use Rattle.answer.specs.Numbers.{Answer, Outcome}
 use Rattle.answer.specs.declared.Accepted.TheVariants.{Done, Plain}
@@ -267,12 +268,14 @@ module _ (s : Nwk) (rows : List CounterRow) (used : ℕ) (b : List ℕ) where
 
       -- THE OPENING
       pub opened-settled : (r : Result ℕ Refusal) (zs : List CounterRow) → left r used zs ≡ settled rows used verdict.change
-          → record { answer = verdict.answer; frame = frame; rows = zs; used = (left r used zs).used; active = verdict.active } ≡ open_nwk s rows used b
-      opened-settled r zs e =
+          → (n : ℕ) → n ≡ result_unwrap_or r used
+          → record { answer = verdict.answer; frame = frame; rows = zs; used = n; active = verdict.active } ≡ open_nwk s rows used b
+      opened-settled r zs e n is-count =
           let f : left r used zs ≡ after_change asked = e ∙ ap (λ (x : Verdict). settled rows used x.change) verdict-is in
-          (λ i. record { answer = (verdict-is i).answer; frame = frame_is i; rows = zs_is r e i; used = (f i).used; active = (verdict-is i).active })
+          let g = parts r zs in
+          (λ i. record { answer = (verdict-is i).answer; frame = frame_is i; rows = (sym g.0 ∙ ap (λ (x : After). x.rows) f) i; used = (is-count ∙ sym g.1 ∙ ap (λ (x : After). x.used) f) i; active = (verdict-is i).active })
           ∙ result-at asked refl ∙ sym open_is
         where
-          zs_is : (r : Result ℕ Refusal) → left r used zs ≡ settled rows used verdict.change → zs ≡ (after_change asked).rows
-          zs_is (Ok n) q = ap (λ (x : After). x.rows) q ∙ ap (λ (x : Verdict). (settled rows used x.change).rows) verdict-is
-          zs_is (Err why) q = ap (λ (x : After). x.rows) q ∙ ap (λ (x : Verdict). (settled rows used x.change).rows) verdict-is
+          parts : (r : Result ℕ Refusal) (zs : List CounterRow) → ((left r used zs).rows ≡ zs) × ((left r used zs).used ≡ result_unwrap_or r used)
+          parts (Ok m) zs = (refl, refl)
+          parts (Err why) zs = (refl, refl)

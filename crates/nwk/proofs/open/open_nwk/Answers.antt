@@ -7,5 +7,5 @@ judge-verdict-requires c = sized c.args.nwk c.args.rows.now c.args.used c.args.f
 
 pub returns : goal.returns
 returns c =
-    opened-settled c.args.nwk c.args.rows.now c.args.used c.args.frame.now _ c.caller_of-caller.ensures _ c.held-standing.ensures _ _ c.judge-verdict.ensures
-    (record { outcome = c.settle-settled.result.outcome; used = c.settle-settled.result.used }) _ c.settle-settled.ensures
+    opened-settled c.args.nwk c.args.rows.now c.args.used c.args.frame.now _ c.caller_of-caller.ensures _ c.held-standing.ensures _ _ c.judge-verdict.ensures.value c.judge-verdict.ensures.frame_after
+    _ _ c.settle-settled.ensures _ c.unwrap_or.ensures
