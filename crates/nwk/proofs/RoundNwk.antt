@@ -16,12 +16,9 @@ use Rattle.answer.specs.declared.Refusal.TheVariants.{TableFull}
 use Rattle.cells.specs.Rows.{become, find, put, room, settle}
 use Rattle.control.specs.Control.{sent, has_sender, has_number, identifier_of}
 use Rattle.control.specs.declared.KeyIdentifier.TheVariants.{Network}
-use Rattle.auxiliary_header.specs.declared.auxiliary.AuxiliaryRead.TheVariants as auxiliary
-use Rattle.auxiliary_header.specs.declared.auxiliary.Sender.TheVariants.{Address}
 use Rattle.auxiliary_header.specs.declared.auxiliary.KeyUsed.TheVariants as used
 use Rattle.auxiliary_header.specs.Auxiliary.{auxiliary_octets, auxiliary_at}
 use Rattle.auxiliary_header.proofs.AuxiliaryLaws.{read_back}
-use Rattle.frame_header.specs.declared.network.NwkRead.TheVariants as nwk
 use Rattle.frame_header.specs.Nwk.{nwk_control, nwk_kind, nwk_length, nwk_of}
 use Rattle.frame_header.specs.NwkLaws.{nwk-whole, same-control, same_length}
 use Rattle.nib.specs.declared.counters.CounterRow.{CounterRow}
@@ -60,7 +57,7 @@ module _ (s : Nwk) (o : Outgoing) (plain out : List ℕ) (start len : ℕ) (done
   payload = drop header plain
 
   abbrev key : List ℕ
-  key = (key_under s.keys s.active)
+  key = key_under s.keys s.active
 
   abbrev headers : List ℕ
   headers = nwk_headers s o.next plain header
@@ -104,14 +101,14 @@ module _ (s : Nwk) (o : Outgoing) (plain out : List ℕ) (start len : ℕ) (done
   front : take header frame ≡ take header plain
   front = rw parts (take_at (take header plain) (octets ++ sealing) header front_length)
 
-  header_read : nwk_of frame ≡ nwk.Whole (record { len = header; kind = nwk_kind (nwk_control plain); secured = true })
+  header_read : nwk_of frame ≡ Ok (record { len = header; kind = nwk_kind (nwk_control plain); secured = true })
   header_read =
       let l : nwk_length frame ≡ header = same_length plain frame front in
       let w : header ≤ length plain = checked.whole in
       nwk-whole frame (rw (l, frame-length) (omega arith)) ∙ rw (l, same-control plain frame front, checked.bit-set)
 
   auxiliary-read : auxiliary_at frame header
-      ≡ auxiliary.Whole (record { control = record { byte = sent Network }; counter = o.next; sender = Address s.own; key = used.Network s.active; next = header + 14 })
+      ≡ Ok (record { control = record { byte = sent Network }; counter = o.next; sender = Some s.own; key = used.Network s.active; next = header + 14 })
   unfolding has_sender has_number identifier_of bit
   auxiliary-read = rw parts (read_back (take header plain) sealing header (sent Network) o.next s.own s.active front_length counter address)
 

@@ -1,3 +1,4 @@
 -- In reading order.
+pub mod Keys
 pub mod Protection
 pub mod Heard
