@@ -1,8 +1,7 @@
 -- THE HASH OF DATA THAT COME IN PARTS (request W-207), as it is to be read. `adds` adds one part after another as `hash_add` does, a part past the
 -- limit refused and the state then as it was; `finished` is the value that `hash_finish` hands back. Assumes nothing.
-use Rattle.std.specs.Prelude.{◌≡◌, ℕ, ◌≤◌, length}
+use Rattle.std.specs.Prelude.{◌≡◌, ℕ, ◌≤◌, Ok, length}
 use mathlib.Core.List.{List, flatten}
-use Rattle.answer.specs.declared.Outcome.TheVariants.{Done}
 use Rattle.mmo.specs.Hash.{hash_from, hash, zero_block}
 use Rattle.mmo.specs.Stream.{limit, hashing, started, finished, adds, taken}
 use Rattle.mmo.proofs.StreamLaws as laws
@@ -20,5 +19,5 @@ pub as-it-comes : (h : List ℕ) (parts : List (List ℕ)) → finished (adds (s
 as-it-comes = laws.as-it-comes
 
 -- and a state that the calls made always finishes
-pub finishes : (h : List ℕ) (parts : List (List ℕ)) → hashing (adds (started h) parts).total ≡ Done
+pub finishes : (h : List ℕ) (parts : List (List ℕ)) → hashing (adds (started h) parts).total ≡ Ok tt
 finishes = laws.finishes

@@ -1,6 +1,6 @@
 -- What a turn of a loop over blocks does. Assumes nothing.
 use Rattle.std.specs.Prelude.{◌≡◌, refl, List, [], ◌∷◌, ◌++◌, ℕ, suc, ◌+◌, ◌-◌, ◌/◌, ◌<◌, ◌≤◌, min, length, take, drop, replicate}
-use Rattle.std.proofs.Common.{sym, ap, ◌∙◌, arith, append-nil, length-append, length-drop, drop_of_length-le, take_all, take_at, drop_at}
+use Rattle.std.proofs.Common.{ap, ◌∙◌, arith, append-nil, length-append, length-drop, drop_of_length-le, take_all, take_at, drop_at}
 use Rattle.laws.specs.Blocks.{cut, blocks}
 
 pub blocks-nil : blocks [] ≡ []

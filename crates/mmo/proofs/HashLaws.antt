@@ -1,7 +1,7 @@
 -- Laws of the hash: a turn of its loop, and messages in parts. Assumes nothing.
 use mathlib.Core.Path.{◌≡◌, refl, ap, ◌∙◌}
 use mathlib.Core.List.{List, [], ◌∷◌, ◌++◌, append_assoc, append-nil}
-use Prim.Native.Nat.{ℕ, zero, suc, ◌-◌, ◌*◌, ◌<◌, ◌≤◌}
+use Prim.Native.Nat.{ℕ, zero, suc, ◌-◌, ◌*◌, ◌<◌, ◌≤◌, min}
 use native.Mathlib.Nat.{suc-ne-zero}
 use native.Mathlib.Numerals.{unary_clauses}
 use native.Mathlib.Omega.{arith}
@@ -10,7 +10,7 @@ use lib.Seq.{length-take-le, take-append-le, drop-append-le, take_all}
 use Rattle.laws.specs.Octets.{◌⊕◌}
 use Rattle.laws.specs.XorLaws.{xor-length}
 use Rattle.laws.specs.Blocks.{blocks}
-use Rattle.laws.specs.BlockLaws.{blocks-nil, blocks-cons}
+use Rattle.laws.specs.BlockLaws.{blocks-nil, blocks-cons, blocks-piece}
 use Rattle.aes.specs.Cipher.{cipher}
 use Rattle.aes.specs.Schedule.{key_expansion}
 use Rattle.aes.proofs.Lists.{cipher-length}
@@ -54,6 +54,17 @@ steps-nil h = rw blocks-nil
 pub steps-turn : (h y : List ℕ) → 0 < length y → steps h (blocks y) ≡ steps (step h (filled y)) (blocks (drop 16 y))
 unfolding steps filled
 steps-turn h y l = rw (blocks-cons y l)
+
+-- the same for the pieces that a message is cut into
+pub steps-piece : (h y b r : List ℕ) → y ≡ b ++ r → length b ≡ min 16 (length y) → 0 < length y → steps (step h (filled b)) (blocks r) ≡ steps h (blocks y)
+unfolding steps filled
+steps-piece h y b r e l p =
+    let t : take 16 b ≡ b = take_all 16 b (omega arith) in
+    rw (blocks-piece y b r e l p, t)
+
+pub steps-none : (h y : List ℕ) → length y ≡ 0 → steps h (blocks y) ≡ h
+steps-none h [] e = steps-nil h
+steps-none h (b ∷ y) e = absurd (suc-ne-zero (length y) e)
 
 pub steps-append : (h : List ℕ) (a b : List (List ℕ)) → steps h (a ++ b) ≡ steps (steps h a) b
 unfolding steps

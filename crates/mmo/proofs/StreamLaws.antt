@@ -4,13 +4,16 @@ use mathlib.Core.Bool.{Bool, true, false, cond}
 use mathlib.Core.List.{List, [], ◌∷◌, ◌++◌, append_assoc, append-nil, flatten}
 use Prim.Native.Nat.{ℕ, ◌+◌, ◌*◌, ◌/◌, ◌%◌, ◌<◌, ◌≤◌}
 use native.Mathlib.Omega.{arith}
-use borrow.Author.Tests.{le-leb, leb-true}
+use native.Mathlib.Nat.{zero-add}
+use borrow.Author.Tests.{le-leb, leb-true, leb-false}
 use lib.Dec.{leb}
 use lib.ListN.{length, take, drop, length-append, length-drop}
 use lib.Seq.{length-take-le, take_at, take-add, drop-drop, take-append-le, drop-append-le}
-use Rattle.answer.specs.declared.Outcome.{Outcome}
-use Rattle.answer.specs.declared.Outcome.TheVariants.{Done}
-use Rattle.answer.specs.Numbers.{when_done}
+use Rattle.std.specs.Prelude.{Result, Ok, Err}
+use Rattle.std.specs.Result.{result_unwrap_or}
+use Rattle.answer.specs.declared.Refusal.{Refusal}
+use Rattle.answer.specs.declared.Refusal.TheVariants.{Unsupported}
+use Rattle.answer.specs.Numbers.{Outcome, giving}
 use Rattle.laws.specs.Blocks.{blocks}
 use Rattle.mmo.specs.declared.stream.Hashing.{Hashing}
 use Rattle.mmo.specs.Hash.{padding, steps, hash_from, hash, zero_block, filled}
@@ -66,10 +69,22 @@ finish-after : (h m : List ℕ) → finished (after h m) ≡ hash_from h m
 unfolding finished hash_from
 finish-after h m = rw (waits h m) (steps-parts h m (padding (length m)) (length m / 16) (whole m) refl (omega arith))
 
+abbrev done : Outcome
+done = Ok tt
+
 -- within the limit a call does its work
-pub is-done : (n : ℕ) → n ≤ limit → hashing n ≡ Done
+pub is-done : (n : ℕ) → n ≤ limit → hashing n ≡ Ok tt
 unfolding hashing
 is-done n l = rw (le-leb n limit l)
+
+-- and a call that did its work was within it
+pub within-limit : (n : ℕ) → hashing n ≡ Ok tt → n ≤ limit
+unfolding hashing
+within-limit n e = decide (leb n limit) refl e
+  where
+    decide : (b : Bool) → leb n limit ≡ b → ◌≡◌ {A = Outcome} (cond b done (Err Unsupported)) done → n ≤ limit
+    decide true f e = leb-true n limit f
+    decide false f e = let z : ◌≡◌ {A = ℕ} 1 0 = cc in absurd (omega arith)
 
 adding-done : (s : Hashing) (p : List ℕ) → leb (s.total + length p) limit ≡ true → after_adding s p ≡ added s p
 unfolding after_adding hashing
@@ -126,7 +141,7 @@ within n (p ∷ ps) l = decide (leb (n + length p) limit) refl (λ u. within (n 
     decide true e done refused = let u = done (leb-true (n + length p) limit e) in simp length-append (omega arith)
     decide false e done refused = refused
 
-pub finishes : (h : List ℕ) (parts : List (List ℕ)) → hashing (adds (started h) parts).total ≡ Done
+pub finishes : (h : List ℕ) (parts : List (List ℕ)) → hashing (adds (started h) parts).total ≡ Ok tt
 finishes h parts =
     let l = within 0 parts (omega arith) in
     rw (start-after h, comes h [] parts) (is-done (length (taken 0 parts)) (omega arith))
@@ -148,8 +163,29 @@ unfolding added
 added-total s p = refl
 
 -- a call within the limit
-pub add_done : (s t : Hashing) (p : List ℕ) → s.total + length p ≤ limit → t ≡ after_adding s p → t ≡ added s p
-add_done s t p l q = q ∙ adding-done s p (le-leb (s.total + length p) limit l)
+pub giving-done : {A : Type 0} (n : ℕ) (x : A) → n ≤ limit → giving (hashing n) x ≡ Ok x
+giving-done n x l = rw (is-done n l)
 
-pub finish-done : (s : Hashing) (v : List ℕ) (o : Outcome) → s.total ≤ limit → o ≡ hashing s.total → v ≡ when_done o (finished s) zero_block → v ≡ finished s
-finish-done s v o l e q = q ∙ ap (λ (r : Outcome). when_done r (finished s) zero_block) (e ∙ is-done s.total l)
+-- what a call's answer says of its size
+pub given : {A : Type 0} (n : ℕ) (x a : A) → giving (hashing n) x ≡ Ok a → (n ≤ limit) × (x ≡ a)
+unfolding hashing
+given {A} n x a e = decide (leb n limit) refl e
+  where
+    decide : (b : Bool) → leb n limit ≡ b → giving (cond b done (Err Unsupported)) x ≡ Ok a → (n ≤ limit) × (x ≡ a)
+    decide true f e = (leb-true n limit f, ap (λ (r : Result A Refusal). result_unwrap_or r x) e)
+    decide false f e = let z : ◌≡◌ {A = ℕ} 1 0 = cc in absurd (omega arith)
+
+pub refused : {A : Type 0} (n : ℕ) (x : A) (why : Refusal) → giving (hashing n) x ≡ Err why → (limit < n) × (Unsupported ≡ why)
+unfolding hashing
+refused {A} n x why e = decide (leb n limit) refl e
+  where
+    decide : (b : Bool) → leb n limit ≡ b → giving (cond b done (Err Unsupported)) x ≡ Err why → (limit < n) × (Unsupported ≡ why)
+    decide true f e = let z : ◌≡◌ {A = ℕ} 1 0 = cc in absurd (omega arith)
+    decide false f e = (leb-false n limit f, ap (λ (r : Result A Refusal). elim r [ Ok y ↦ Unsupported | Err w ↦ w ]) e)
+
+-- the hash of one part from a start
+pub from-start : (h m : List ℕ) → giving (hashing ((started h).total + length m)) (finished (added (started h) m)) ≡ giving (hashing (length m)) (hash_from h m)
+from-start h m =
+    let v = finished (added (started h) m) in
+    ap (λ (n : ℕ). giving (hashing (n + length m)) v) (started-total h) ∙ ap (λ (n : ℕ). giving (hashing n) v) (zero-add (length m))
+    ∙ ap (giving (hashing (length m))) (one-part h m)

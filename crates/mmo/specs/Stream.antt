@@ -1,10 +1,8 @@
 -- Request W-207: the hash of data that come in parts. What goes from call to call is the value over the whole blocks so far, the octets
 -- that wait for their block to be full, and how many octets there were in all.
-use Rattle.std.specs.Prelude.{ℕ, ◌+◌, ◌*◌, ◌/◌, ◌%◌, cond, List, [], ◌∷◌, ◌++◌, leb, length, take, drop}
-use Rattle.answer.specs.declared.Outcome.{Outcome}
-use Rattle.answer.specs.declared.Outcome.TheVariants.{Done, Refused}
+use Rattle.std.specs.Prelude.{ℕ, ◌+◌, ◌*◌, ◌/◌, ◌%◌, cond, List, [], ◌∷◌, ◌++◌, Ok, Err, leb, length, take, drop}
 use Rattle.answer.specs.declared.Refusal.TheVariants.{Unsupported}
-use Rattle.answer.specs.Numbers.{when_done}
+use Rattle.answer.specs.Numbers.{Outcome, when_done}
 use Rattle.laws.specs.Blocks.{blocks}
 use Rattle.mmo.specs.declared.stream.Hashing.{Hashing}
 use Rattle.mmo.specs.Hash.{padding, steps, zero_block, filled}
@@ -15,7 +13,7 @@ limit = 536870911
 
 -- data of n octets in all: more than the limit are refused with 7
 unfoldable pub hashing : ℕ → Outcome
-hashing n = cond (leb n limit) Done (Refused Unsupported)
+hashing n = cond (leb n limit) (Ok tt) (Err Unsupported)
 
 -- the start, from an initial block
 unfoldable pub started : List ℕ → Hashing

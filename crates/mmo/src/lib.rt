@@ -7,6 +7,5 @@ mod stream;
 
 pub use steps::first_block;
 pub use stream::{
-    Added, Digest, Hashing, hash_add, hash_add_with, hash_finish, hash_finish_with, hash_start,
-    hash_start_from,
+    Hashing, hash_add, hash_add_with, hash_finish, hash_finish_with, hash_start, hash_start_from,
 };

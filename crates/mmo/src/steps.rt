@@ -1,8 +1,9 @@
 // Annex B.6, the output: each block is enciphered under the value so far, and XORed into what comes out.
 ghost use Rattle.std.specs.Prelude.{◌≡◌};
 ghost use Rattle.laws.specs.Blocks.{blocks};
-ghost use Rattle.tables.specs.Rounds.{IsRound, IsSubstitution};
 ghost use Rattle.mmo.specs.Hash.{step, steps, filled};
+
+use tables::CipherTables;
 
 // The first 16 bytes of s; where there are fewer, zeros follow them.
 pub fn first_block(s: &[u8]) -> [u8; 16]
@@ -14,35 +15,23 @@ pub fn first_block(s: &[u8]) -> [u8; 16]
 }
 
 // One block, with the tables of AES lent.
-pub(crate) fn step(
-    h: [u8; 16],
-    x: [u8; 16],
-    round: &[u8; 2048],
-    substitution: &[u8; 256],
-) -> [u8; 16]
-    requires round { IsRound round.now }
-    requires substitution { IsSubstitution substitution.now }
+pub(crate) fn step(h: [u8; 16], x: [u8; 16], tables: CipherTables) -> [u8; 16]
     ensures { result ≡ step h x }
 {
-    let keys = aes::expand_with(substitution, h);
-    let mut y = aes::encipher(round, &keys, x);
+    let keys = aes::expand_with(tables.substitution, h);
+    let mut y = aes::encipher(tables.round, &keys, x);
     octets::xor_into(&mut y, &x);
     y
 }
 
 // From h over the blocks of s, the last filled up with zeros.
-pub(crate) fn run(h: [u8; 16], s: &[u8], round: &[u8; 2048], substitution: &[u8; 256]) -> [u8; 16]
-    requires round { IsRound round.now }
-    requires substitution { IsSubstitution substitution.now }
+pub(crate) fn run(h: [u8; 16], s: &[u8], tables: CipherTables) -> [u8; 16]
     ensures { result ≡ steps h (blocks s.now) }
 {
     let mut y = h;
-    let mut at = 0;
-    while at < s.len() {
-        let x = first_block(&s[at..]);
-        let z = step(y, x, round, substitution);
-        y = z;
-        at += 16;
+    for block in s.chunks(16) {
+        let next = step(y, first_block(block), tables);
+        y = next;
     }
     y
 }

@@ -1,13 +1,13 @@
 // Request W-207: start, add, finish. What goes from call to call is the caller's, by value.
-ghost use Rattle.std.specs.Prelude.{◌≡◌, ◌++◌, ◌+◌, ◌<◌, ◌≤◌, leb, length, take};
-ghost use Rattle.answer.specs.Numbers.{when_done};
-ghost use Rattle.tables.specs.Rounds.{IsRound, IsSubstitution};
+ghost use Rattle.std.specs.Prelude.{◌≡◌, ◌++◌, ◌+◌, ◌<◌, ◌≤◌, length, take};
+ghost use Rattle.answer.specs.Numbers.{giving};
 ghost use Rattle.mmo.specs.Hash.{zero_block, filled};
-ghost use Rattle.mmo.specs.Stream.{limit, hashing, started, added, finished, after_adding};
+ghost use Rattle.mmo.specs.Stream.{limit, hashing, started, added, finished};
 
 use crate::padding::pad;
 use crate::steps::{first_block, run, step};
-use answer::{Outcome, Refusal};
+use answer::Refusal;
+use tables::CipherTables;
 
 // 2^32 bits are one byte more.
 const LIMIT: usize = 536870911;
@@ -15,25 +15,11 @@ const LIMIT: usize = 536870911;
 // The value over the whole blocks so far, the bytes that wait, and how many there were in all. Of the tail the first total % 16 bytes
 // wait, so that no state contradicts itself.
 #[repr(C)]
-#[derive(Clone, Copy)]
+#[derive(Clone, Copy, Debug, PartialEq, Eq)]
 pub struct Hashing {
     pub value: [u8; 16],
     pub tail: [u8; 16],
     pub total: u32,
-}
-
-// What adding answers.
-#[derive(Clone, Copy)]
-pub struct Added {
-    pub outcome: Outcome,
-    pub state: Hashing,
-}
-
-// What a hash answers. A refusal's value is 16 zero bytes.
-#[derive(Clone, Copy)]
-pub struct Digest {
-    pub outcome: Outcome,
-    pub value: [u8; 16],
 }
 
 // The start, from the zero block.
@@ -61,14 +47,15 @@ pub fn hash_start_from(initial: &[u8]) -> Hashing
 }
 
 // Whether n bytes more are taken after so many.
-fn takes(total: u32, n: usize) -> bool
-    ensures { result ≡ leb (total + n) limit }
+#[tactic(auto, unfolding(crate::specs::Stream::hashing))]
+fn takes(total: u32, n: usize) -> Result<(), Refusal>
+    ensures { result ≡ hashing (total + n) }
 {
     let before = total as usize;
-    if LIMIT < before {
-        return false;
+    if LIMIT < before.saturating_add(n) {
+        return Err(Refusal::Unsupported);
     }
-    n <= LIMIT - before
+    Ok(())
 }
 
 // The first block of the n bytes that wait and of the part after them.
@@ -82,100 +69,57 @@ fn lead(tail: [u8; 16], n: usize, part: &[u8]) -> [u8; 16]
 }
 
 // The state with a part more that is taken.
-fn followed(state: Hashing, part: &[u8], round: &[u8; 2048], substitution: &[u8; 256]) -> Hashing
-    requires round { IsRound round.now }
-    requires substitution { IsSubstitution substitution.now }
-    requires part_bound { state.total + length part.now ≤ limit }
+fn followed(state: Hashing, part: &[u8], tables: CipherTables) -> Hashing
+    requires { state.total + length part.now ≤ limit }
     ensures { result ≡ added state part.now }
 {
-    let value = state.value;
-    let tail = state.tail;
     let n = (state.total % 16) as usize;
     let room = 16 - n;
     let total = state.total + part.len() as u32;
-    let first = lead(tail, n, part);
+    let first = lead(state.tail, n, part);
     if part.len() < room {
         return Hashing {
-            value,
             tail: first,
             total,
+            ..state
         };
     }
-    let begun = step(value, first, round, substitution);
+    let begun = step(state.value, first, tables);
     let end = part.len() - (part.len() - room) % 16;
-    let value = run(begun, &part[room..end], round, substitution);
+    let value = run(begun, &part[room..end], tables);
     let tail = first_block(&part[end..]);
     Hashing { value, tail, total }
 }
 
-// A part more, with the tables of AES lent.
-pub fn hash_add_with(
-    state: Hashing,
-    part: &[u8],
-    round: &[u8; 2048],
-    substitution: &[u8; 256],
-) -> Added
-    requires round { IsRound round.now }
-    requires substitution { IsSubstitution substitution.now }
-    ensures { (result.outcome ≡ hashing (state.total + length part.now))
-        × (result.state ≡ after_adding state part.now) }
+// The state with a part more, with the tables of AES lent.
+pub fn hash_add_with(state: Hashing, part: &[u8], tables: CipherTables) -> Result<Hashing, Refusal>
+    ensures { result ≡ giving (hashing (state.total + length part.now)) (added state part.now) }
 {
-    if takes(state.total, part.len()) {
-        let next = followed(state, part, round, substitution);
-        return Added {
-            outcome: Outcome::Done,
-            state: next,
-        };
-    }
-    Added {
-        outcome: Outcome::Refused(Refusal::Unsupported),
-        state,
-    }
+    takes(state.total, part.len())?;
+    Ok(followed(state, part, tables))
 }
 
-// The same, with the tables named here, once a part.
-pub fn hash_add(state: Hashing, part: &[u8]) -> Added
-    ensures { (result.outcome ≡ hashing (state.total + length part.now))
-        × (result.state ≡ after_adding state part.now) }
+// The same, with the tables named here. Where the part is refused, the state that it was to follow still stands.
+pub fn hash_add(state: Hashing, part: &[u8]) -> Result<Hashing, Refusal>
+    ensures { result ≡ giving (hashing (state.total + length part.now)) (added state part.now) }
 {
-    let round = tables::ROUND;
-    let substitution = tables::SUBSTITUTION;
-    hash_add_with(state, part, &round, &substitution)
+    hash_add_with(state, part, tables::cipher_tables())
 }
 
 // The value, with the tables of AES lent.
-pub fn hash_finish_with(state: Hashing, round: &[u8; 2048], substitution: &[u8; 256]) -> Digest
-    requires round { IsRound round.now }
-    requires substitution { IsSubstitution substitution.now }
-    ensures { (result.outcome ≡ hashing state.total)
-        × (result.value ≡ when_done result.outcome (finished state) zero_block) }
+pub fn hash_finish_with(state: Hashing, tables: CipherTables) -> Result<[u8; 16], Refusal>
+    ensures { result ≡ giving (hashing state.total) (finished state) }
 {
-    let total = state.total as usize;
-    if LIMIT < total {
-        return Digest {
-            outcome: Outcome::Refused(Refusal::Unsupported),
-            value: [0u8; 16],
-        };
-    }
-    let value = state.value;
-    let tail = state.tail;
-    let n = total % 16;
-    let last = pad(&tail[..n], total);
-    let p = last.bytes;
-    let end = last.len;
-    let value = run(value, &p[..end], round, substitution);
-    Digest {
-        outcome: Outcome::Done,
-        value,
-    }
+    takes(state.total, 0)?;
+    let n = (state.total % 16) as usize;
+    let mut lent = [0; 32];
+    let last = pad(&state.tail[..n], state.total, &mut lent);
+    Ok(run(state.value, last, tables))
 }
 
 // The same, with the tables named here.
-pub fn hash_finish(state: Hashing) -> Digest
-    ensures { (result.outcome ≡ hashing state.total)
-        × (result.value ≡ when_done result.outcome (finished state) zero_block) }
+pub fn hash_finish(state: Hashing) -> Result<[u8; 16], Refusal>
+    ensures { result ≡ giving (hashing state.total) (finished state) }
 {
-    let round = tables::ROUND;
-    let substitution = tables::SUBSTITUTION;
-    hash_finish_with(state, &round, &substitution)
+    hash_finish_with(state, tables::cipher_tables())
 }

@@ -1,5 +1,5 @@
 // The hash of the Zigbee specification, annex B.6, of a whole message, and the keyed hash of RFC 2104 over it. `mmo` has the hash itself,
-// of data that come in parts, and what these calls answer (`mmo::Digest`).
+// of data that come in parts.
 #![tactic(auto)]
 
 mod calls;

@@ -1,6 +1,5 @@
 -- `mmo::padding::closed` meets its contract. Assumes nothing.
 use native.Mathlib.Omega.{arith}
-use mathlib.Core.Path.{refl}
 use Prim.Native.Nat.{◌+◌, ◌*◌, ◌/◌}
 use lib.ListN.{length}
 use Rattle.mmo.proofs.PaddingLaws.{closing}
@@ -12,4 +11,4 @@ returns c =
     let s = a.s.now in
     let ending = a.ending.now in
     let e = (length s + length ending + 16) / 16 * 16 in
-    (refl, rw (c.copy-2.ensures, c.copy.ensures) (closing s ending _ _ e (omega arith) (omega arith)))
+    rw (c.copy-2.ensures, c.copy.ensures) (closing s ending _ _ e (omega arith) (omega arith))

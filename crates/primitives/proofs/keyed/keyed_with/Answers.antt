@@ -1,32 +1,45 @@
--- `primitives::keyed::keyed_with` meets its contract. The callees' contracts in a row. Assumes nothing.
-use mathlib.Core.Path.{◌≡◌, ap, ◌∙◌}
-use native.Mathlib.Omega.{arith}
-use lib.ListN.{length}
-use borrow.Author.Rules.{rules}
+-- `primitives::keyed::keyed_with` meets its contract. Assumes nothing.
+use Rattle.std.proofs.Common.{◌≡◌, ◌+◌, ◌-◌, ◌≤◌, ◌<◌, Ok, Err, length, refl, sym, ap, ◌∙◌, arith, rules}
+use Rattle.std.proofs.lemmas.Result.{err_from_is_err_and}
 use Rattle.mmo.specs.Hash.{zero_block}
-use Rattle.mmo.specs.Stream.{started, added}
-use Rattle.primitives.proofs.KeyedLaws.{begun-total, keyed}
+use Rattle.mmo.specs.Stream.{limit, started, added}
+use Rattle.mmo.proofs.StreamLaws.{given, refused, giving-done}
+use Rattle.primitives.proofs.KeyedLaws.{begun-total, keyed, keyed-key, keyed-text, keyed-taken}
 use Rattle.primitives.proofs.keyed.keyed_with.Goals as goal
 
-pub ended-inner-requires : goal.ended-inner-requires
-ended-inner-requires c =
+pub returns-in_err-k : goal.returns-in_err-k
+returns-in_err-k c =
+    let a = c.args in
+    let r = refused _ _ _ (sym c.key_block.ensures ∙ c.in_err-k.was) in
+    let p = err_from_is_err_and c.from_residual.result c.from_residual.ensures.1 in
+    rw (p.1, p.2, keyed-key (length a.key.now) (length a.text.now) r.0) (ap Err (sym r.1))
+
+pub returns-in_err-inner : goal.returns-in_err-inner
+returns-in_err-inner c =
+    let a = c.args in
     let b = c.masked.result in
     let n : length b ≡ 16 = search rules in
     let t = begun-total _ b c.begun-x.ensures in
-    record { round = search rules; substitution = search rules; rest_bound = omega arith }
-
-pub ended-requires : goal.ended-requires
-ended-requires c =
-    let b = c.masked-2.result in
-    let i = c.ended-inner.result in
-    let n : length b ≡ 16 = search rules in
-    let m : length i ≡ 16 = search rules in
-    let t = begun-total _ b c.begun-y.ensures in
-    record { round = search rules; substitution = search rules; rest_bound = omega arith }
+    let r = refused _ _ _ (sym c.ended.ensures ∙ c.in_err-inner.was) in
+    let l : limit - 16 < length a.text.now = omega (arith, r.0) in
+    let p = err_from_is_err_and c.from_residual-in_err-inner.result c.from_residual-in_err-inner.ensures.1 in
+    rw (p.1, p.2, keyed-text (length a.key.now) (length a.text.now) l) (ap Err (sym r.1))
 
 pub returns : goal.returns
 returns c =
-    let a = c.args in
+    let K = c.args.key.now in
+    let text = c.args.text.now in
+    let inner = c.in_ok-inner.inner in
+    let n : length c.masked.result ≡ 16 = search rules in
+    let m : length c.masked-2.result ≡ 16 = search rules in
+    let o : length inner ≡ 16 = search rules in
+    let t = begun-total _ c.masked.result c.begun-x.ensures in
+    let u = begun-total _ c.masked-2.result c.begun-y.ensures in
+    let k = given _ _ _ (sym c.key_block.ensures ∙ c.in_ok-k.was) in
+    let i = given _ _ _ (sym c.ended.ensures ∙ c.in_ok-inner.was) in
     let x = c.begun-x.ensures ∙ ap (added (started zero_block)) c.masked.ensures in
     let y = c.begun-y.ensures ∙ ap (added (started zero_block)) c.masked-2.ensures in
-    keyed a.key.now a.text.now _ _ _ _ _ c.key_block-k.ensures x c.ended-inner.ensures y c.ended.ensures
+    let v = keyed K text _ _ _ _ _ (sym k.1) x (sym i.1) y refl in
+    let l : length text ≤ limit - 16 = omega (arith, i.0) in
+    let d : c.begun-y.result.total + length inner ≤ limit = omega arith in
+    rw (keyed-taken (length K) (length text) l k.0) (c.ended-2.ensures ∙ giving-done _ _ d ∙ ap Ok v)

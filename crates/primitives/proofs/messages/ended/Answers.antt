@@ -1,21 +1,14 @@
--- `primitives::messages::ended` meets its contract: within the limit both calls do their work. Assumes nothing.
-use mathlib.Core.Path.{ap, ◌∙◌}
-use Prim.Native.Nat.{◌+◌, ◌≤◌}
-use native.Mathlib.Omega.{arith}
-use lib.ListN.{length}
-use borrow.Author.Rules.{rules}
+-- `primitives::messages::ended` meets its contract: a part that is taken leaves a state that finishes. Assumes nothing.
+use Rattle.std.proofs.Common.{ℕ, sym, ap, ◌∙◌}
+use Rattle.answer.specs.Numbers.{giving}
 use Rattle.mmo.specs.declared.stream.Hashing.{Hashing}
-use Rattle.mmo.specs.Stream.{limit, finished}
-use Rattle.mmo.proofs.StreamLaws.{add_done, finish-done, added-total}
+use Rattle.mmo.specs.Stream.{hashing, added, finished}
+use Rattle.mmo.proofs.StreamLaws.{given, added-total}
 use Rattle.primitives.proofs.messages.ended.Goals as goal
 
 pub returns : goal.returns
 returns c =
-    let a = c.args in
-    let l : a.state.total + length a.rest.now ≤ limit = search rules in
-    let r = c.hash_add_with-added in
-    let f = c.hash_finish_with-digest in
-    let e = add_done a.state r.result.state a.rest.now l r.ensures.1 in
-    let t = ap (λ (s : Hashing). s.total) e ∙ added-total a.state a.rest.now in
-    let m : r.result.state.total ≤ limit = omega arith in
-    finish-done r.result.state f.result.value f.result.outcome m f.ensures.0 f.ensures.1 ∙ ap finished e
+    let s = c.args.state in
+    let m = c.args.rest.now in
+    let e = (given _ _ _ (sym c.hash_add_with.ensures ∙ c.in_ok-all.was)).1 in
+    c.hash_finish_with.ensures ∙ ap (λ (t : Hashing). giving (hashing t.total) (finished t)) (sym e) ∙ ap (λ (n : ℕ). giving (hashing n) (finished (added s m))) (added-total s m)
