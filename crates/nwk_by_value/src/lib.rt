@@ -23,7 +23,8 @@ pub struct OpenedWith {
 pub fn open_with(nwk: Nwk, mut table: CounterTable, frame: &mut [u8]) -> OpenedWith
     ensures { opened_with result frame.new ≡ open_nwk nwk table.rows table.used frame.old }
 {
-    let opened = nwk::open_nwk(nwk, &mut table.rows, table.used, frame);
+    let used = table.used;
+    let opened = nwk::open_nwk(nwk, &mut table.rows, used, frame);
     table.used = opened.used;
     OpenedWith {
         table,

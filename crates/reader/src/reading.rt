@@ -136,7 +136,8 @@ impl Reader {
         let mut space = [0u8; 1024];
         let frame = &mut space[..body.len()];
         frame.copy_from_slice(body);
-        let opened = nwk::open_nwk(self.nwk, &mut self.table.rows, self.table.used, frame);
+        let used = self.table.used;
+        let opened = nwk::open_nwk(self.nwk, &mut self.table.rows, used, frame);
         self.table.used = opened.used;
         self.nwk.active = opened.active;
         opened.answer
