@@ -15,7 +15,6 @@ use Rattle.answer.specs.declared.Refusal.TheVariants.{TableFull}
 use Rattle.cells.specs.Rows.{become, find, put, room, settle}
 use Rattle.aib.specs.declared.pairs.PairRow.{PairRow}
 use Rattle.aib.specs.declared.pairs.Pairs.{Pairs}
-use Rattle.aib.specs.declared.search.PairFound.{PairFound}
 use Rattle.aib.specs.Pairs.{PairCell, pair_rows, usable_found}
 use Rattle.aib.specs.Counters.{in_use, heard}
 use Rattle.control.specs.Control.{sent, has_number}
