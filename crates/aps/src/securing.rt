@@ -65,7 +65,13 @@ pub fn secure_aps(
 {
     let found = aib::usable(pairs, device);
     let chosen = judged(aps, pairs.used, found, extended, plain, out.len())?;
-    put(aps, chosen, plain, ApsControl { byte: plain[0] }.length(), out);
+    put(
+        aps,
+        chosen,
+        plain,
+        ApsControl { byte: plain[0] }.length(),
+        out,
+    );
     aib::advance(pairs, device)?;
     Ok(Accepted::Done {
         start: 0,

@@ -20,7 +20,7 @@ returns-in_err-key c =
     let a = c.args in
     let p = err_from_is_err_and c.from_residual-in_err-key.result c.from_residual-in_err-key.ensures.1 in
     let z = judged-allowed a.claim (held_in a.held) a.room a.frame.now (sym c.allowed.ensures ∙ c.in_ok-allowed.was) in
-    let k = no-key (chosen a.claim (held_in a.held) a.room a.frame.now) _ _ (c.key_for.ensures ∙ ap key_chosen (ap₂ key_for c.key.ensures c.link_key.ensures)) c.ok_or.ensures _ c.in_err-key.was in
+    let k = no-key (chosen a.claim (held_in a.held) a.room a.frame.now) _ _ (c.key_for.ensures ∙ ap key_chosen (ap₂ key_for c.key.ensures c.link_key.ensures)) c.ok_or.ensures.value _ c.in_err-key.was in
     rw (p.1, p.2, ← k.1) (z.barred k.0)
 
 pub open-requires : goal.open-requires
@@ -33,7 +33,7 @@ pub returns : goal.returns
 returns c =
     let a = c.args in
     let z = judged-allowed a.claim (held_in a.held) a.room a.frame.now (sym c.allowed.ensures ∙ c.in_ok-allowed.was) in
-    let k = some-key (chosen a.claim (held_in a.held) a.room a.frame.now) _ _ (c.key_for.ensures ∙ ap key_chosen (ap₂ key_for c.key.ensures c.link_key.ensures)) c.ok_or.ensures _ c.in_ok-key.was in
+    let k = some-key (chosen a.claim (held_in a.held) a.room a.frame.now) _ _ (c.key_for.ensures ∙ ap key_chosen (ap₂ key_for c.key.ensures c.link_key.ensures)) c.ok_or.ensures.value _ c.in_ok-key.was in
     (λ i. record { answer = c.open.ensures.value i; frame = c.open.ensures.frame_after i })
     ∙ ap (λ (key : List ℕ). tried key a.claim.sender a.claim.counter a.claim.at a.claim.payload a.room a.frame.now) k.1
     ∙ z.judged k.0

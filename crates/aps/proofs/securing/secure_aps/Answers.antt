@@ -1,5 +1,5 @@
 -- `aps::securing::secure_aps` meets its contract. Assumes nothing.
-use Rattle.std.proofs.Common.{◌≡◌, sym, ap, ◌∙◌, ◌++◌, ◌+◌, ℕ, length, drop}
+use Rattle.std.proofs.Common.{arith, ◌≡◌, sym, ap, ◌∙◌, ◌++◌, ◌+◌, ℕ, length, drop}
 use Rattle.std.proofs.lemmas.Result.{err_from_is_err_and}
 use Rattle.answer.specs.Numbers.{Outcome}
 use Rattle.answer.specs.declared.Accepted.TheVariants.{Done}
