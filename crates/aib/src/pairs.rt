@@ -4,7 +4,7 @@ ghost use Rattle.std.specs.Prelude.{◌≡◌};
 ghost use Rattle.aib.specs.Pairs.{new_row, may_use};
 
 // Key attributes; every other number is reserved.
-// Numbers and no enum, here and for the link key types: the C interface holds them (PairRow in the calls on APS).
+// Numbers and no enum, here and for the link key types: the C interface holds it (PairRow of pouchkettle_open_aps).
 pub const PROVISIONAL: u8 = 0;
 
 pub const UNVERIFIED: u8 = 1;

@@ -1,5 +1,5 @@
 // Searches for a device's row: each takes the first that matches. A count above 16 finds in the 16 rows that there are.
-ghost use Rattle.std.specs.Prelude.{◌≡◌, position, take};
+ghost use Rattle.std.specs.Prelude.{◌≡◌, length, position, take};
 ghost use Rattle.cells.specs.Rows.{is_row};
 ghost use Rattle.aib.specs.Pairs.{pair_rows, may_use, pair_found, usable_found};
 
@@ -29,7 +29,8 @@ pub(crate) fn usable_place(pairs: &Pairs, device: u64) -> Option<usize>
 
 // The row by which a frame from the device is opened.
 pub fn find(pairs: &Pairs, device: u64) -> Option<PairRow>
-    ensures { result ≡ pair_found pairs.now device }
+    ensures row { result ≡ pair_found pairs.now device }
+    ensures sixteen { length pairs.now.rows ≡ 16 }
 {
     in_use(pairs)
         .iter()

@@ -1,5 +1,6 @@
 -- How a finished frame lies in the output, on plain lists. Assumes nothing.
-use mathlib.Core.Path.{◌≡◌, sym, ap, ◌∙◌}
+use mathlib.Core.Path.{◌≡◌, refl, sym, ap, ◌∙◌}
+use Rattle.std.specs.Prelude.{Some}
 use mathlib.Core.Bool.{false}
 use mathlib.Core.List.{List, [], ◌++◌, append_assoc, append-nil}
 use Prim.Native.Nat.{ℕ, ◌+◌, ◌-◌, ◌≤◌}
@@ -10,17 +11,26 @@ use Rattle.aib.specs.declared.pairs.PairRow.{PairRow}
 use Rattle.control.specs.Control.{has_number, sent}
 use Rattle.control.specs.ControlLaws.{sent-sender}
 use Rattle.control.specs.declared.KeyIdentifier.{KeyIdentifier}
+use Rattle.control.specs.declared.KeyIdentifier.TheVariants.{Link, Network, Transport, Load}
 use Rattle.auxiliary_header.specs.Auxiliary.{auxiliary_octets}
 use Rattle.auxiliary_header.proofs.AuxiliaryLaws.{octets-length}
 use Rattle.auxiliary_header.specs.Written.{written}
 use Rattle.auxiliary_header.specs.WrittenLaws as writing
-use Rattle.protection.specs.Keys.{key_for}
+use Rattle.protection.specs.Keys.{key_for, key_chosen}
 use Rattle.protection.specs.Protection.{secured_octets}
 use Rattle.aps.specs.declared.state.Aps.{Aps}
 use Rattle.aps.specs.SecureAps.{aps_on_air}
 
 pub thirteen : (identifier : KeyIdentifier) (counter own : ℕ) → has_number (sent identifier) ≡ false → length (auxiliary_octets (sent identifier) counter own 0) ≡ 13
 thirteen identifier counter own n = octets-length (sent identifier) counter own 0 ∙ rw (sent-sender identifier, n)
+
+-- a key that a frame is sent under is one that is chosen
+pub carried : (identifier : KeyIdentifier) (link : List ℕ) → has_number (sent identifier) ≡ false → key_chosen (key_for identifier link) ≡ Some (key_for identifier link).key
+unfolding has_number key_for
+carried Link link n = refl
+carried Network link n = let z : ◌≡◌ {A = ℕ} 0 1 = cc in absurd (omega arith)
+carried Transport link n = refl
+carried Load link n = refl
 
 module _ (plain out aux : List ℕ) (header : ℕ) (whole : header ≤ length plain) (room : length plain + 17 ≤ length out) (long : length aux ≡ 13) where
   abbrev front : List ℕ

@@ -15,18 +15,15 @@ use Rattle.answer.specs.declared.Refusal.TheVariants.{TableFull}
 use Rattle.cells.specs.Rows.{become, find, put, room, settle}
 use Rattle.aib.specs.declared.pairs.PairRow.{PairRow}
 use Rattle.aib.specs.declared.pairs.Pairs.{Pairs}
-use Rattle.aib.specs.declared.search.PairFound.{PairFound}
-use Rattle.aib.specs.Pairs.{PairCell, pair_rows, usable_found}
+use Rattle.cells.specs.First.{first}
+use Rattle.aib.specs.Pairs.{PairCell, pair_rows, may_use}
 use Rattle.aib.specs.Counters.{in_use, heard}
 use Rattle.control.specs.Control.{sent, has_number}
 use Rattle.control.specs.ControlLaws.{sent-identifier, sent-sender}
 use Rattle.control.specs.declared.KeyIdentifier.{KeyIdentifier}
 use Rattle.control.specs.declared.KeyIdentifier.TheVariants.{Link, Network, Transport, Load}
-use Rattle.auxiliary_header.specs.declared.auxiliary.AuxiliaryRead.TheVariants as auxiliary
-use Rattle.auxiliary_header.specs.declared.auxiliary.Sender.TheVariants.{Address}
 use Rattle.auxiliary_header.specs.Auxiliary.{key_used, auxiliary_octets, auxiliary_at}
 use Rattle.auxiliary_header.proofs.AuxiliaryLaws.{read_back}
-use Rattle.frame_header.specs.declared.application.ApsRead.TheVariants as aps
 use Rattle.frame_header.specs.Aps.{is_command, aps_length, aps_of}
 use Rattle.frame_header.specs.ApsLaws.{aps-whole}
 use Rattle.claims.specs.declared.Claim.{Claim}
@@ -68,23 +65,23 @@ pub record Hears (sender counter : ℕ) (link : List ℕ) (g : Aps) (pairs : Pai
 
 module _ (s : Aps) (pairs : Pairs) (d : ℕ) (extended : Bool) (plain out : List ℕ) (start len : ℕ)
     (done : (secure_aps s pairs d extended plain out).answer ≡ Ok (Done start len)) where
-  abbrev found : PairFound
-  found = usable_found pairs d
-
-  -- the row that was used, and the key identifier
-  abbrev pub row : PairRow
-  row = found.row
+  abbrev found : Option PairRow
+  found = first (may_use d) (in_use pairs)
 
   abbrev gone : Sent s pairs d extended plain out found refl
   gone = went-out s pairs d extended plain out found refl start len done
 
+  -- the row that was used, and the key identifier
+  abbrev pub row : PairRow
+  row = gone.chosen.row
+
   abbrev pub identifier : KeyIdentifier
-  identifier = gone.identifier
+  identifier = gone.chosen.identifier
 
   abbrev taken : Taken s pairs.used plain
   taken = gone.is-ready.taken
 
-  abbrev goes : Goes found plain (length out) identifier
+  abbrev goes : Goes found plain (length out) gone.chosen
   goes = gone.is-ready.goes-out
 
   abbrev pub header : ℕ
@@ -146,14 +143,14 @@ module _ (s : Aps) (pairs : Pairs) (d : ℕ) (extended : Bool) (plain out : List
       let h : 0 < header = header-some (get_or plain 0 0) in
       rw parts (get_or-append (take header plain) (octets ++ sealing) 0 0 (rw front_length h) ∙ get_or-take header plain 0 0 h)
 
-  header_read : aps_of frame ≡ aps.Whole (record { len = header; command = is_command (get_or plain 0 0); secured = true })
+  header_read : aps_of frame ≡ Ok (record { len = header; command = is_command (get_or plain 0 0); secured = true })
   header_read =
       let w = whole in
       aps-whole frame (λ e. omega (arith, frame-length)) (rw first-octet taken.kind) (rw (first-octet, frame-length) (omega arith)) ∙ rw (first-octet, taken.secured)
 
   module _ (address : s.own < 2 ^ 64) (counter : row.outgoing < 2 ^ 32) where
     auxiliary-read : auxiliary_at frame header
-        ≡ auxiliary.Whole (record { control = record { byte = sent identifier }; counter = row.outgoing; sender = Address s.own; key = key_used identifier 0; next = header + 13 })
+        ≡ Ok (record { control = record { byte = sent identifier }; counter = row.outgoing; sender = Some s.own; key = key_used identifier 0; next = header + 13 })
     auxiliary-read =
         rw parts
         (read_back (take header plain) sealing header (sent identifier) row.outgoing s.own 0 front_length counter address

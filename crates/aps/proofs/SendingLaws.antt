@@ -30,9 +30,9 @@ use Rattle.aps.specs.Sending.{choice, shortest, kind_taken, plain_taken, sendabl
 
 -- ---- sizes
 
-pub header-small : (control : ℕ) → aps_length control ≤ 9
+pub header_small : (control : ℕ) → aps_length control ≤ 9
 unfolding aps_length
-header-small control = at (is_command control) (eqb (aps_delivery control) 3)
+header_small control = at (is_command control) (eqb (aps_delivery control) 3)
   where
     at : (t u : Bool) → cond t 2 (1 + cond u 2 1 + 2 + 2 + 1 + 1) ≤ 9
     at true u = omega arith
@@ -139,7 +139,7 @@ goes (Some row) extended plain room c e =
     let z : row ≡ c.row = cc in
     record {
       found = ap Some z;
-      fresh = rw z at eqb-false row.outgoing spent p.0;
+      fresh = λ q. eqb-false row.outgoing spent p.0 (ap (λ (x : PairRow). x.outgoing) z ∙ q);
       space = ltb-false room (length plain + 17) r.0;
       number = numberless plain (aps_length (get_or plain 0 0)) c.identifier k.0;
     }
@@ -229,8 +229,12 @@ module _ (s : Aps) (pairs : Pairs) (d : ℕ) (extended : Bool) (plain out : List
 
 -- ---- the rows
 
+pub usable-is : (pairs : Pairs) (d : ℕ) → usable_found pairs d ≡ first (may_use d) (in_use pairs)
+unfolding usable_found
+usable-is pairs d = refl
+
 advances : (pairs : Pairs) (d : ℕ) (r : PairRow) → pairs.used ≤ 16 → first (may_use d) (in_use pairs) ≡ Some r → (r.outgoing ≡ spent → ⊥)
-    → (advanced pairs d).pairs ≡ holding (at_first (may_use d) raised (in_use pairs)) pairs
+    → advanced pairs d ≡ record { outcome = Ok tt; counter = r.outgoing; pairs = holding (at_first (may_use d) raised (in_use pairs)) pairs }
 unfolding advanced
 advances pairs d r few e n = rw (le-ltb 16 pairs.used few, e, ne_eqb r.outgoing spent n)
 
@@ -250,7 +254,7 @@ module _ (s : Aps) (pairs : Pairs) (d : ℕ) (extended : Bool) (plain out : List
     pub taken : Taken s pairs.used plain
     pub goes-out : Goes found plain (length out) c
     pub done : aps_done s pairs d c.row c.identifier plain out (aps_length (get_or plain 0 0)) ≡ secure_aps s pairs d extended plain out
-    pub moved : (advanced pairs d).pairs ≡ holding (at_first (may_use d) raised (in_use pairs)) pairs
+    pub moved : advanced pairs d ≡ record { outcome = Ok tt; counter = c.row.outgoing; pairs = holding (at_first (may_use d) raised (in_use pairs)) pairs }
 
   pub ready : (c : Chosen) → judged ≡ Ok c → Ready c
   unfolding judgement

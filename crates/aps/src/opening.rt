@@ -43,8 +43,7 @@ fn allowed(claim: Claim, held: Option<PairRow>, size: usize) -> Result<(), Refus
 
 fn judged(claim: Claim, held: Option<PairRow>, room: bool, frame: &mut [u8]) -> Answer
     requires { (claim.at < claim.payload) × (claim.payload ≤ length frame.old) × (length frame.old ≤ 1024) }
-    ensures value { result ≡ (replied room (aps_judged claim (held_in held) frame.old)).answer }
-    ensures frame_after { frame.new ≡ (replied room (aps_judged claim (held_in held) frame.old)).frame }
+    ensures { record { answer = result; frame = frame.new } ≡ replied room (aps_judged claim (held_in held) frame.old) }
 {
     allowed(claim, held, frame.len())?;
     let key = key_for(claim.control.key(), link_key(held)).ok_or(Refusal::KeyNotAllowed)?;
@@ -61,9 +60,7 @@ fn judged(claim: Claim, held: Option<PairRow>, room: bool, frame: &mut [u8]) -> 
 // The judgement, and the one commit: only a frame that was opened changes a row.
 fn open_claim(pairs: &mut Pairs, claim: Claim, frame: &mut [u8]) -> Answer
     requires { (pairs.old.used ≤ 16) × (claim.at < claim.payload) × (claim.payload ≤ length frame.old) × (length frame.old ≤ 1024) }
-    ensures value { result ≡ (committed pairs.old claim frame.old).answer }
-    ensures pairs_after { pairs.new ≡ (committed pairs.old claim frame.old).pairs }
-    ensures frame_after { frame.new ≡ (committed pairs.old claim frame.old).frame }
+    ensures { record { answer = result; frame = frame.new; pairs = pairs.new } ≡ committed pairs.old claim frame.old }
 {
     let held = aib::find(pairs, claim.sender);
     let opened = judged(claim, held, has_room(held, pairs.used), frame)?;
@@ -72,16 +69,14 @@ fn open_claim(pairs: &mut Pairs, claim: Claim, frame: &mut [u8]) -> Answer
 }
 
 // Opens the frame in place, or leaves every byte and every row as it was.
-#[tactic(auto, unfolding(crate::specs::OpenAps::open_aps))]
 pub fn open_aps(aps: Aps, pairs: &mut Pairs, frame: &mut [u8]) -> Answer
-    ensures value { result ≡ (open_aps aps pairs.old frame.old).answer }
-    ensures pairs_after { pairs.new ≡ (open_aps aps pairs.old frame.old).pairs }
-    ensures frame_after { frame.new ≡ (open_aps aps pairs.old frame.old).frame }
+    ensures { record { answer = result; frame = frame.new; pairs = pairs.new } ≡ open_aps aps pairs.old frame.old }
 {
     if unfit(aps, pairs.used) {
         return Err(Refusal::Unsupported);
     }
-    match claims::aps_who(frame)? {
+    let who = claims::aps_who(frame)?;
+    match who {
         Who::Plain { start, len } => Ok(Accepted::Plain { start, len }),
         Who::Claims(claim) => open_claim(pairs, claim, frame),
     }

@@ -61,13 +61,17 @@ pub fn secure_aps(
     plain: &[u8],
     out: &mut [u8],
 ) -> Answer
-    ensures value { result ≡ (secure_aps aps pairs.old device extended plain.now out.old).answer }
-    ensures pairs_after { pairs.new ≡ (secure_aps aps pairs.old device extended plain.now out.old).pairs }
-    ensures out_after { out.new ≡ (secure_aps aps pairs.old device extended plain.now out.old).out }
+    ensures { record { answer = result; out = out.new; pairs = pairs.new } ≡ secure_aps aps pairs.old device extended plain.now out.old }
 {
     let found = aib::usable(pairs, device);
     let chosen = judged(aps, pairs.used, found, extended, plain, out.len())?;
-    put(aps, chosen, plain, ApsControl { byte: plain[0] }.length(), out);
+    put(
+        aps,
+        chosen,
+        plain,
+        ApsControl { byte: plain[0] }.length(),
+        out,
+    );
     aib::advance(pairs, device)?;
     Ok(Accepted::Done {
         start: 0,

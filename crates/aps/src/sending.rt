@@ -41,6 +41,7 @@ fn carried_by(command: u8, kind: u8) -> Result<KeyIdentifier, Refusal>
     }
 }
 
+#[tactic(auto, using(crate::proofs::SendingLaws::header_small))]
 fn identifier_for(plain: &[u8], control: ApsControl) -> Result<KeyIdentifier, Refusal>
     requires { control.byte ≡ get_or plain.now 0 0 }
     ensures { result ≡ choice (identifier_for plain.now (aps_length control.byte)) }
@@ -53,6 +54,7 @@ fn identifier_for(plain: &[u8], control: ApsControl) -> Result<KeyIdentifier, Re
 }
 
 // The header, and of a command its first payload byte.
+#[tactic(auto, using(crate::proofs::SendingLaws::header_small))]
 fn shortest(control: ApsControl) -> usize
     ensures { result ≡ shortest control.byte }
 {

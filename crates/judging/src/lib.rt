@@ -115,12 +115,7 @@ fn judged(keys: NetworkKeys, claim: Claim, standing: Standing, frame: &mut [u8])
 }
 
 // The judgement. A frame that is refused keeps every byte.
-pub fn judge(
-    nwk: Nwk,
-    who: Result<Who, Refusal>,
-    standing: Standing,
-    frame: &mut [u8],
-) -> Verdict
+pub fn judge(nwk: Nwk, who: Result<Who, Refusal>, standing: Standing, frame: &mut [u8]) -> Verdict
     requires { (c : Claim) → who ≡ Ok (Claims c) → Sized c frame.old }
     ensures value { result ≡ verdict_of nwk who standing frame.old }
     ensures frame_after { frame.new ≡ heard_frame nwk who standing frame.old }

@@ -6,7 +6,7 @@ ghost use Rattle.nib.specs.Active.{next, turn};
 pub fn following(number: u8) -> u8
     ensures { result ≡ next number }
 {
-    std::num::wrapping_add_u8(number, 1)
+    number.wrapping_add(1)
 }
 
 // The active number after a frame opened under `number`.

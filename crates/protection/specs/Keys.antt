@@ -20,5 +20,5 @@ key_for Transport link = picks (keyed_hash link (0x00 ∷ []))
 key_for Load link = picks (keyed_hash link (0x02 ∷ []))
 
 -- the key, if there is one
-abbrev pub chosen : Choice → Option (List ℕ)
-chosen c = cond c.refused None (Some c.key)
+abbrev pub key_chosen : Choice → Option (List ℕ)
+key_chosen c = cond c.refused None (Some c.key)

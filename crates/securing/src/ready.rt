@@ -14,13 +14,7 @@ const LARGEST: usize = 1006;
 
 // The checks that follow the header's, in document 01's order. Room is the last, before the counter is taken.
 #[tactic(auto, unfolding(crate::specs::Ready::ready_framed))]
-fn framed(
-    nwk: Nwk,
-    next: u32,
-    size: usize,
-    room: usize,
-    h: NwkHeader,
-) -> Result<usize, Refusal>
+fn framed(nwk: Nwk, next: u32, size: usize, room: usize, h: NwkHeader) -> Result<usize, Refusal>
     requires { size ≤ 1006 }
     ensures { result ≡ ready_framed nwk next size room (Ok h) }
 {

@@ -1,38 +1,39 @@
 -- `aps::opening::judged` meets its contract. Assumes nothing.
-use mathlib.Core.Path.{◌≡◌, sym, ap, ap₂, ◌∙◌}
+use Rattle.std.proofs.Common.{◌≡◌, sym, ap, ap₂, ◌∙◌, List, ℕ}
+use Rattle.std.proofs.lemmas.Result.{err_from_is_err_and}
 use Rattle.control.specs.Control.{identifier_of}
-use Rattle.protection.specs.Keys.{Choice, key_for}
-use Rattle.protection.specs.Heard.{Heard}
+use Rattle.protection.specs.Keys.{key_for, key_chosen}
+use Rattle.protection.specs.Heard.{tried}
 use Rattle.aps.specs.OpenAps.{link_key}
 use Rattle.aps.specs.Opening.{held_in}
-use Rattle.aps.proofs.OpeningLaws.{judged-refused, judged-allowed}
+use Rattle.aps.proofs.OpeningLaws.{chosen, judged-refused, judged-allowed, no-key, some-key}
 use Rattle.aps.proofs.opening.judged.Goals as goal
 
-pub tried-requires : goal.tried-requires
-tried-requires c =
+pub returns-in_err-allowed : goal.returns-in_err-allowed
+returns-in_err-allowed c =
     let a = c.args in
-    let z = judged-allowed a.claim (held_in a.held) a.room a.frame.now (sym c.allowed.ensures ∙ c.in-Done.is) in
+    let p = err_from_is_err_and c.from_residual.result c.from_residual.ensures.1 in
+    rw (p.1, p.2) (judged-refused a.claim (held_in a.held) a.room a.frame.now _ (sym c.allowed.ensures ∙ c.in_err-allowed.was))
+
+pub returns-in_err-key : goal.returns-in_err-key
+returns-in_err-key c =
+    let a = c.args in
+    let p = err_from_is_err_and c.from_residual-in_err-key.result c.from_residual-in_err-key.ensures.1 in
+    let z = judged-allowed a.claim (held_in a.held) a.room a.frame.now (sym c.allowed.ensures ∙ c.in_ok-allowed.was) in
+    let k = no-key (chosen a.claim (held_in a.held) a.room a.frame.now) _ _ (c.key_for.ensures ∙ ap key_chosen (ap₂ key_for c.key.ensures c.link_key.ensures)) c.ok_or.ensures.value _ c.in_err-key.was in
+    rw (p.1, p.2, ← k.1) (z.barred k.0)
+
+pub open-requires : goal.open-requires
+open-requires c =
+    let a = c.args in
+    let z = judged-allowed a.claim (held_in a.held) a.room a.frame.now (sym c.allowed.ensures ∙ c.in_ok-allowed.was) in
     (c.requires.0, z.size, c.requires.2)
 
-pub returns-then-chosen : goal.returns-then-chosen
-returns-then-chosen c =
+pub returns : goal.returns
+returns c =
     let a = c.args in
-    let z = judged-allowed a.claim (held_in a.held) a.room a.frame.now (sym c.allowed.ensures ∙ c.in-Done.is) in
-    let k : key_for c.key.result c.link_key.result ≡ key_for (identifier_of a.claim.control.byte) (link_key (held_in a.held)) = ap₂ key_for c.key.ensures c.link_key.ensures in
-    let e = z.barred (ap (λ (x : Choice). x.refused) (sym k) ∙ sym c.key_for-chosen.ensures.0 ∙ c.if-chosen.true) in
-    (ap (λ (h : Heard). h.answer) e, ap (λ (h : Heard). h.frame) e)
-
-pub returns-in-Refused : goal.returns-in-Refused
-returns-in-Refused c =
-    let a = c.args in
-    let e = judged-refused a.claim (held_in a.held) a.room a.frame.now _ (sym c.allowed.ensures ∙ c.in-Refused.is) in
-    (ap (λ (h : Heard). h.answer) e, ap (λ (h : Heard). h.frame) e)
-
-pub returns-else-chosen : goal.returns-else-chosen
-returns-else-chosen c =
-    let a = c.args in
-    let z = judged-allowed a.claim (held_in a.held) a.room a.frame.now (sym c.allowed.ensures ∙ c.in-Done.is) in
-    let k : key_for c.key.result c.link_key.result ≡ key_for (identifier_of a.claim.control.byte) (link_key (held_in a.held)) = ap₂ key_for c.key.ensures c.link_key.ensures in
-    let e = z.judged (ap (λ (x : Choice). x.refused) (sym k) ∙ sym c.key_for-chosen.ensures.0 ∙ c.if-chosen.false) in
-    let is_key = c.key_for-chosen.ensures.1 ∙ ap (λ (x : Choice). x.key) k in
-    (c.tried.ensures.0 ∙ rw is_key (ap (λ (h : Heard). h.answer) e), c.tried.ensures.1 ∙ rw is_key (ap (λ (h : Heard). h.frame) e))
+    let z = judged-allowed a.claim (held_in a.held) a.room a.frame.now (sym c.allowed.ensures ∙ c.in_ok-allowed.was) in
+    let k = some-key (chosen a.claim (held_in a.held) a.room a.frame.now) _ _ (c.key_for.ensures ∙ ap key_chosen (ap₂ key_for c.key.ensures c.link_key.ensures)) c.ok_or.ensures.value _ c.in_ok-key.was in
+    (λ i. record { answer = c.open.ensures.value i; frame = c.open.ensures.frame_after i })
+    ∙ ap (λ (key : List ℕ). tried key a.claim.sender a.claim.counter a.claim.at a.claim.payload a.room a.frame.now) k.1
+    ∙ z.judged k.0
