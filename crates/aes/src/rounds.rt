@@ -12,8 +12,8 @@ use tables::RoundTable;
 use words::{State, block_of, joined, state_of, xored};
 
 // Four bytes of the entry for x, from byte i on: its column turned by as many rows.
-fn entry(table: RoundTable, x: u32, i: usize) -> u32
-    requires { (x < 256) × (i < 5) }
+fn entry(table: RoundTable, x: u8, i: usize) -> u32
+    requires { i < 5 }
     ensures { bytes result ≡ listed 4 i (twice (products (sbox x))) }
 {
     let at = 8 * (x as usize) + i;
@@ -26,8 +26,7 @@ fn entry(table: RoundTable, x: u32, i: usize) -> u32
 }
 
 // The substituted byte: every entry has it as its second.
-fn substituted(table: RoundTable, x: u32) -> u8
-    requires { x < 256 }
+fn substituted(table: RoundTable, x: u8) -> u8
     ensures { result ≡ sbox x }
 {
     table.bytes[8 * (x as usize) + 1]
@@ -37,10 +36,10 @@ fn substituted(table: RoundTable, x: u32) -> u8
 fn column(table: RoundTable, a: u32, b: u32, c: u32, d: u32, key: u32) -> u32
     ensures { bytes result ≡ xor_word (mix_column (sbox (byte_of a 0)) (sbox (byte_of b 1)) (sbox (byte_of c 2)) (sbox (byte_of d 3))) (bytes key) }
 {
-    let p = entry(table, a % 256, 0);
-    let q = entry(table, b / 256 % 256, 3);
-    let r = entry(table, c / 65536 % 256, 2);
-    let s = entry(table, d / 16777216 % 256, 1);
+    let p = entry(table, a.to_le_bytes()[0], 0);
+    let q = entry(table, b.to_le_bytes()[1], 3);
+    let r = entry(table, c.to_le_bytes()[2], 2);
+    let s = entry(table, d.to_le_bytes()[3], 1);
     xored(xored(xored(xored(p, q), r), s), key)
 }
 
@@ -51,10 +50,10 @@ fn last_column(table: RoundTable, a: u32, b: u32, c: u32, d: u32, key: u32) -> u
 {
     xored(
         joined(
-            substituted(table, a % 256),
-            substituted(table, b / 256 % 256),
-            substituted(table, c / 65536 % 256),
-            substituted(table, d / 16777216 % 256),
+            substituted(table, a.to_le_bytes()[0]),
+            substituted(table, b.to_le_bytes()[1]),
+            substituted(table, c.to_le_bytes()[2]),
+            substituted(table, d.to_le_bytes()[3]),
         ),
         key,
     )

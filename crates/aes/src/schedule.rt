@@ -15,8 +15,7 @@ fn round_constant(n: usize) -> u8
     tables::ROUND_CONSTANTS[n]
 }
 
-fn substituted(table: SubstitutionTable, x: u32) -> u8
-    requires { x < 256 }
+fn substituted(table: SubstitutionTable, x: u8) -> u8
     ensures { result ≡ sbox x }
 {
     table.bytes[x as usize]
@@ -28,11 +27,12 @@ fn turned(table: SubstitutionTable, q: u32, n: usize) -> u32
     requires { n < 10 }
     ensures { bytes result ≡ xor_word (sub_word (rot_word (bytes q))) (rcon (n + 1)) }
 {
+    let [a, b, c, d] = q.to_le_bytes();
     joined(
-        substituted(table, q / 256 % 256) ^ round_constant(n),
-        substituted(table, q / 65536 % 256),
-        substituted(table, q / 16777216 % 256),
-        substituted(table, q % 256),
+        substituted(table, b) ^ round_constant(n),
+        substituted(table, c),
+        substituted(table, d),
+        substituted(table, a),
     )
 }
 

@@ -5,4 +5,4 @@ use Rattle.aes.proofs.rounds.entry.Goals as goal
 
 pub returns : goal.returns
 returns c =
-    c.joined.ensures ∙ entry-four c.args.table.bytes.now c.args.x c.args.i c.args.table.ruled c.requires.0 c.requires.1
+    c.joined.ensures ∙ entry-four c.args.table.bytes.now c.args.x c.args.i c.args.table.ruled c.ranges.x.fits c.requires
