@@ -1,13 +1,16 @@
 // Reading a whole input into memory that is lent, for the programs.
 #![tactic(auto)]
 
-ghost use Rattle.std.specs.Prelude.{◌≤◌, length, IfOk};
+ghost use Rattle.std.specs.Prelude.{◌<◌, ◌≤◌, length, take, IfOk};
+ghost use Rattle.std.specs.Io.KnownBytes.{Consumes, IsAtEnd};
 
 use std::io::{self, Read};
 
 // Reads until the space is full or the input ends: how many bytes were read. Each read but the last brings one at least.
 pub fn read_full<R: Read>(source: &mut R, space: &mut [u8]) -> io::Result<usize>
-    ensures { IfOk result (λ n. n ≤ length space.new) }
+    ensures count { IfOk result (λ n. n ≤ length space.new) }
+    ensures bytes { IfOk result (λ n. Consumes (R.remaining source.old) (R.remaining source.new) (take n space.new)) }
+    ensures end { IfOk result (λ n. n < length space.new → IsAtEnd (R.remaining source.new)) }
 {
     let mut count = 0;
     for _ in 0..space.len() {
