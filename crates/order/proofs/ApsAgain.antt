@@ -1,7 +1,6 @@
 -- No APS frame opens twice: the proof. Assumes nothing.
-use Rattle.std.specs.Prelude.{◌≡◌, refl, Bool, true, false, cond, not, List, ℕ, ◌+◌, ◌≤◌, ltb, length, drop, Err, Ok, Result}
+use Rattle.std.specs.Prelude.{◌≡◌, refl, Bool, true, false, cond, not, List, ℕ, ◌+◌, ◌≤◌, ltb, length, drop, Err, Ok, Result, Option, None, Some}
 use Rattle.std.proofs.Common.{sym, ap, ◌∙◌, le_trans, arith, length-take, eq-eqb, ne_eqb, lt-ltb}
-use Rattle.std.specs.Prelude.{Option, None, Some}
 use Rattle.std.proofs.lemmas.Option.{none-some, same_Some}
 use Rattle.std.proofs.Math.Seq.{take-append_seam}
 use Rattle.answer.specs.declared.Refusal.TheVariants.{Unsupported, CounterRepeated, CounterBehind}
@@ -9,8 +8,7 @@ use Rattle.cells.specs.First.{at_first}
 use Rattle.cells.specs.ListLaws.{clash, either, which}
 use Rattle.cells.specs.Rows.{Reaction, find, settle}
 use Rattle.cells.specs.Machine.{final}
-use Rattle.aib.specs.declared.counters.Advanced.{Advanced}
-use Rattle.aib.specs.Counters.{in_use, holding, raised, heard}
+use Rattle.aib.specs.Counters.{Advanced, in_use, holding, raised, heard}
 use Rattle.aib.specs.Pairs.{PairCell, pair_rows, may_use}
 use Rattle.answer.specs.declared.Refusal.{Refusal}
 use Rattle.claims.specs.declared.Claim.{Claim}

@@ -1,7 +1,6 @@
 -- The outgoing counter of a pair row through any calls of APS: it never falls, and rises above what was used. Assumes nothing.
-use Rattle.std.specs.Prelude.{◌≡◌, refl, Bool, true, false, cond, List, ℕ, ◌≤◌, ◌<◌, ◌^◌, eqb, length, drop, get_or}
+use Rattle.std.specs.Prelude.{◌≡◌, refl, Bool, true, false, cond, List, ℕ, ◌≤◌, ◌<◌, ◌^◌, eqb, length, drop, get_or, Option, None, Some}
 use Rattle.std.proofs.Common.{sym, ap, ◌∙◌, arith, eqb-true}
-use Rattle.std.specs.Prelude.{Option, None, Some}
 use Rattle.std.proofs.lemmas.Option.{none-some}
 use Rattle.std.proofs.Math.Seq.{take-append_seam}
 use Rattle.std.proofs.lemmas.Bool.{eqb-false}
@@ -10,10 +9,9 @@ use Rattle.cells.specs.First.{first, at_first}
 use Rattle.cells.specs.Lists.{Distinct}
 use Rattle.cells.specs.ListLaws.{either}
 use Rattle.frame_header.specs.Aps.{aps_length}
-use Rattle.aib.specs.declared.counters.Advanced.{Advanced}
 use Rattle.aib.specs.declared.pairs.PairRow.{PairRow}
 use Rattle.aib.specs.declared.pairs.Pairs.{Pairs}
-use Rattle.aib.specs.Counters.{in_use, holding, raised}
+use Rattle.aib.specs.Counters.{Advanced, in_use, holding, raised}
 use Rattle.aib.specs.Pairs.{may_use}
 use Rattle.claims.specs.Claims.{spent}
 use Rattle.aps.specs.SecureAps.{Secured, identifier_for}

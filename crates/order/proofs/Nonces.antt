@@ -2,10 +2,8 @@
 -- the outgoing counter is not reset: no counter is used twice, so no two frames are secured under one nonce. For NWK that is said of all keys
 -- together, for APS of each pair row. Two rows may hold one key, and then a nonce may come twice under it: see the crate `needed_aps`,
 -- proofs/Reuse.antt. Assumes nothing.
-use Rattle.std.specs.Prelude.{Ok}
-use Rattle.std.specs.Prelude.{◌≡◌, refl, Bool, List, ◌++◌, ℕ, ◌≤◌, ◌<◌, ◌^◌, length, take, get_or}
+use Rattle.std.specs.Prelude.{Ok, ◌≡◌, refl, Bool, List, ◌++◌, ℕ, ◌≤◌, ◌<◌, ◌^◌, length, take, get_or, Option}
 use Rattle.std.proofs.Common.{sym, ap, ◌∙◌, arith, length-take-le}
-use Rattle.std.specs.Prelude.{Option}
 use Rattle.std.proofs.lemmas.List.{get_or_at}
 use Rattle.answer.specs.declared.Accepted.TheVariants.{Done}
 use Rattle.cells.specs.Lists.{Distinct}

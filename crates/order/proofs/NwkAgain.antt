@@ -1,7 +1,6 @@
 -- No NWK frame opens twice: the proof. Assumes nothing.
-use Rattle.std.specs.Prelude.{◌≡◌, refl, Bool, true, false, cond, not, List, ℕ, ◌+◌, ◌≤◌, ltb, length, Err, Ok, Result}
+use Rattle.std.specs.Prelude.{◌≡◌, refl, Bool, true, false, cond, not, List, ℕ, ◌+◌, ◌≤◌, ltb, length, Err, Ok, Result, Option, Some}
 use Rattle.std.proofs.Common.{ap, ◌∙◌, le_trans, arith, eq-eqb, ne_eqb, lt-ltb}
-use Rattle.std.specs.Prelude.{Option, Some}
 use Rattle.std.proofs.lemmas.Option.{none-some}
 use Rattle.answer.specs.declared.Refusal.TheVariants.{Unsupported, CounterRepeated, CounterBehind}
 use Rattle.cells.specs.ListLaws.{clash, either, which}

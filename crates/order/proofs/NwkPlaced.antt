@@ -1,8 +1,7 @@
 -- An opening of an NWK frame, for the machine of NwkRun.antt: what it does to the row of the pair that the frame names. Assumes nothing.
-use Rattle.std.specs.Prelude.{◌≡◌, false, not, List, ℕ, ◌≤◌, length, eqb, ltb, Err, Ok, Result}
+use Rattle.std.specs.Prelude.{◌≡◌, false, not, List, ℕ, ◌≤◌, length, eqb, ltb, Err, Ok, Result, None, Some}
 use Rattle.std.proofs.Math.Path.{refl, sym}
 use Rattle.std.proofs.Common.{arith, length-append, length-drop}
-use Rattle.std.specs.Prelude.{None, Some}
 use Rattle.std.proofs.lemmas.Option.{none-some, same_Some}
 use Rattle.std.proofs.Math.ListN.{length-take}
 use borrow.Author.Tests.{eq-eqb, eqb-true, le-ltb, ltb-false}

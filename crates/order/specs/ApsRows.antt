@@ -1,10 +1,9 @@
 -- What the calls of APS do to the rows: an opening leaves every outgoing counter, and a securing every incoming one. Assumes nothing.
-use Rattle.std.specs.Prelude.{◌≡◌, Bool, not, ◌&&◌, eqb, leb, ltb, drop, Err, Ok, Result}
+use Rattle.std.specs.Prelude.{◌≡◌, Bool, not, ◌&&◌, eqb, leb, ltb, drop, Err, Ok, Result, Option, Some}
 use Rattle.std.proofs.Math.Path.{refl}
 use Rattle.std.proofs.Common.{ap, eqb-true}
 use Rattle.std.proofs.Math.Bool.{true, false, cond}
 use mathlib.Core.List.{List, [], ◌∷◌}
-use Rattle.std.specs.Prelude.{Option, Some}
 use Rattle.std.proofs.lemmas.Option.{none-some, same_Some}
 use Prim.Native.Nat.{ℕ, suc, ◌+◌}
 use Rattle.std.proofs.Math.ListN.{length}

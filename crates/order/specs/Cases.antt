@@ -1,22 +1,18 @@
 -- P1 TO P10: document 01's cases that are marked P, as one list, on the definitions that the promises use. That there are frames and states as the
 -- records here ask for is shown in the crates `needed` and `needed_aps`, proofs/Inhabited.antt. Assumes nothing.
-use Rattle.std.specs.Prelude.{Ok, is_some, Err, Result}
-use Rattle.std.specs.Prelude.{◌≡◌, refl, Bool, true, false, cond, List, [], ◌∷◌, ℕ, ◌≤◌, ◌<◌, length, take}
+use Rattle.std.specs.Prelude.{Ok, is_some, Err, Result, ◌≡◌, refl, Bool, true, false, cond, List, [], ◌∷◌, ℕ, ◌≤◌, ◌<◌, length, take, Some}
 use Rattle.std.proofs.Common.{ap, ◌∙◌, arith, eq-eqb, le-ltb}
-use Rattle.std.specs.Prelude.{Some}
 use Rattle.std.proofs.lemmas.Bool.{lt-leb}
-use Rattle.answer.specs.Numbers.{Answer}
+use Rattle.answer.specs.Numbers.{Answer, outcome_number, told}
 use Rattle.answer.specs.declared.Accepted.TheVariants.{Done}
 use Rattle.answer.specs.declared.Refusal.TheVariants.{Unsupported}
-use Rattle.answer.specs.Numbers.{outcome_number, told}
 use Rattle.cells.specs.Rows.{find, settle}
 use Rattle.control.specs.declared.KeyIdentifier.TheVariants.{Link, Network, Transport, Load}
 use Rattle.control.specs.Control.{filled, sent}
 use Rattle.auxiliary_header.specs.Nonce.{nonce_of}
 use Rattle.auxiliary_header.specs.Cases as frame
 use Rattle.frame_header.specs.declared.network.NwkHeader.{NwkHeader}
-use Rattle.frame_header.specs.declared.network.NwkRead.TheVariants as nwk
-use Rattle.frame_header.specs.Nwk.{nwk_of}
+use Rattle.frame_header.specs.Nwk.{nwk_kind_number, nwk_of}
 use Rattle.mmo.specs.Hash.{padding}
 use Rattle.nib.specs.declared.counters.CounterRow.{CounterRow}
 use Rattle.nib.specs.Active.{turn}
@@ -76,8 +72,8 @@ pub record NwkSends (s : Nwk) (plain : List ℕ) : Type 0 where
   pub level : s.level ≡ 5
   pub keys : s.keys.used ≤ 2
   pub size : length plain ≤ 1006
-  pub framed : nwk_of plain ≡ nwk.Whole header
-  pub kind : header.kind < 2
+  pub framed : nwk_of plain ≡ Ok header
+  pub kind : nwk_kind_number header.kind < 2
   pub secured : header.secured ≡ true
   pub key : is_some (key_found s.keys s.active) ≡ true
 
@@ -138,6 +134,6 @@ cases = record {
   p10 = (
     nib.p10,
     λ s plain out h.
-        rw (eq-eqb s.level 5 h.level, le-ltb 2 s.keys.used h.keys, le-ltb 1006 (length plain) h.size, h.framed, lt-leb 2 h.header.kind h.kind, h.secured, h.key),
+        rw (eq-eqb s.level 5 h.level, le-ltb 2 s.keys.used h.keys, le-ltb 1006 (length plain) h.size, h.framed, lt-leb 2 (nwk_kind_number h.header.kind) h.kind, h.secured, h.key),
   );
 }

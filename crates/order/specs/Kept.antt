@@ -1,6 +1,5 @@
 -- What an opening leaves unless its answer is done, for any table: the common part of NwkKept.antt and ApsKept.antt. Assumes nothing.
-use Rattle.std.specs.Prelude.{Err, Ok}
-use Rattle.std.specs.Prelude.{◌≡◌, refl, Bool, true, false, cond, List, ◌++◌, ℕ, ◌≤◌, length, take, drop}
+use Rattle.std.specs.Prelude.{Err, Ok, ◌≡◌, refl, Bool, true, false, cond, List, ◌++◌, ℕ, ◌≤◌, length, take, drop}
 use Rattle.std.proofs.Common.{arith, take-append-drop, length-take-le}
 use Rattle.answer.specs.Numbers.{Answer}
 use Rattle.answer.specs.declared.Accepted.TheVariants.{Done}

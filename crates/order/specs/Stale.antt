@@ -1,8 +1,6 @@
 -- When a frame has opened, and how an old one is refused. Assumes nothing.
-use Rattle.std.specs.Prelude.{Err, Ok, Result}
-use Rattle.std.specs.Prelude.{◌≡◌, Bool, true, false, List, ℕ, ◌≤◌, ◌<◌}
+use Rattle.std.specs.Prelude.{Err, Ok, Result, ◌≡◌, Bool, true, false, List, ℕ, ◌≤◌, ◌<◌, Option, None, Some}
 use Rattle.std.proofs.Common.{ap, arith, ltb-false}
-use Rattle.std.specs.Prelude.{Option, None, Some}
 use Rattle.std.proofs.lemmas.Option.{none-some, same_Some}
 use Rattle.std.proofs.Math.Decide.{dec_le}
 use Rattle.answer.specs.Numbers.{Answer}
