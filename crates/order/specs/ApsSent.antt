@@ -52,7 +52,7 @@ module _ (pairs : Pairs) (device : ℕ) where
   pub data Advances : Advanced → Type 0 where
     not-advanced : (why : Refusal) → Advances (not_advanced why pairs)
     advances : (row : PairRow) → first (may_use device) (in_use pairs) ≡ Some row → eqb row.outgoing spent ≡ false
-        → Advances (record { outcome = (Ok tt); counter = row.outgoing; pairs = holding (at_first (may_use device) raised (in_use pairs)) pairs })
+        → Advances (record { outcome = Ok tt; counter = row.outgoing; pairs = holding (at_first (may_use device) raised (in_use pairs)) pairs })
 
   pub advancing : Advances (advanced pairs device)
   unfolding advanced

@@ -1,7 +1,7 @@
 -- P1 TO P10: document 01's cases that are marked P, as one list, on the definitions that the promises use. That there are frames and states as the
 -- records here ask for is shown in the crates `needed` and `needed_aps`, proofs/Inhabited.antt. Assumes nothing.
 use Rattle.std.specs.Prelude.{Ok, is_some, Err, Result, ◌≡◌, refl, Bool, true, false, cond, List, [], ◌∷◌, ℕ, ◌≤◌, ◌<◌, length, take, Some}
-use Rattle.std.proofs.Common.{ap, ◌∙◌, arith, eq-eqb, le-ltb}
+use Rattle.std.proofs.Common.{ap, ◌∙◌, eq-eqb, le-ltb}
 use Rattle.std.proofs.lemmas.Bool.{lt-leb}
 use Rattle.answer.specs.Numbers.{Answer, outcome_number, told}
 use Rattle.answer.specs.declared.Accepted.TheVariants.{Done}
@@ -107,15 +107,15 @@ unfolding open_nwk nwk_placed
 turns s rows used b n h = at (nwk_unfit s rows used) h.opens
   where
     placed : (w : Result Who Refusal) → w ≡ Ok (who.Claims h.claim) → (nwk_placed s rows used b w).answer ≡ Ok (Done h.start h.len) → (nwk_placed s rows used b w).active ≡ turn s.active n
-    placed (Err why) e f = let z : ◌≡◌ {A = ℕ} 0 1 = cc in absurd (omega arith)
-    placed (Ok (who.Plain start len)) e f = let z : ◌≡◌ {A = ℕ} 0 1 = cc in absurd (omega arith)
+    placed (Err why) e f = cc
+    placed (Ok (who.Plain start len)) e f = cc
     placed (Ok (who.Claims c)) e f =
         let same : number_of c.key ≡ n = cc in
         ap (active_after s.active (number_of c.key)) f ∙ ap (turn s.active) same
 
     at : (t : Bool) → (cond t (unchanged s rows used (refused Unsupported b)) (nwk_placed s rows used b (nwk_who s.keys b))).answer ≡ Ok (Done h.start h.len)
         → (cond t (unchanged s rows used (refused Unsupported b)) (nwk_placed s rows used b (nwk_who s.keys b))).active ≡ turn s.active n
-    at true f = let z : ◌≡◌ {A = ℕ} 0 1 = cc in absurd (omega arith)
+    at true f = cc
     at false f = placed (nwk_who s.keys b) h.claims f
 
 pub cases : Cases
