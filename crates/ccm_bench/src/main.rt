@@ -3,106 +3,87 @@
 // the frame. All are read, so that the compiler knows none of them. It writes how often the frame opened.
 #![tactic(auto)]
 
-ghost use Rattle.std.specs.Prelude.{◌<◌, ◌≤◌};
+use std::io;
+use std::io::Read;
 
-use answer::Outcome;
+// The most that is read, and where the key, the nonce and the frame lie in it.
+const MOST: usize = 128;
 
-// Standard input, as the kit's `io` takes it.
-const STDIN: i32 = 0;
+const KEY: usize = 6;
 
-// Standard output.
-const STDOUT: i32 = 1;
+const NONCE: usize = 22;
 
-const HEAD: usize = 35;
+const FRAME: usize = 35;
 
-// The bytes from `at` on, as many as there are.
-fn from(s: &[u8], at: usize) -> &[u8] {
-    if at <= s.len() { &s[at..] } else { &s[..0] }
-}
-
-fn key_of(s: &[u8]) -> [u8; 16] {
-    let mut key = [0u8; 16];
-    octets::xor_into(&mut key, from(s, 6));
-    key
-}
-
-fn nonce_of(s: &[u8]) -> [u8; 13] {
-    let mut nonce = [0u8; 13];
-    octets::xor_into(&mut nonce, from(s, 22));
-    nonce
-}
-
-fn frame_of(s: &[u8]) -> [u8; 64] {
-    let mut frame = [0u8; 64];
-    octets::xor_into(&mut frame, from(s, HEAD));
-    frame
-}
-
-// One opening of a copy of the frame: 1 where it opened.
-fn open_copy(
-    keys: &[u32; 44],
+#[derive(Drop)]
+struct Opening {
+    key: [u8; 16],
     nonce: [u8; 13],
     frame: [u8; 64],
-    at: usize,
-    n: usize,
+    associated: usize,
+    payload: usize,
     tag: usize,
-) -> usize
-    ensures { result ≤ 1 }
-{
-    let mut copy = frame;
-    match ccm::unseal(keys, nonce, tag, &mut copy, at, n) {
-        Outcome::Done => 1,
-        Outcome::Refused(_) => 0,
+}
+
+impl Opening {
+    fn from_input(s: &[u8; MOST]) -> Opening {
+        let mut key = [0; 16];
+        octets::xor_into(&mut key, &s[KEY..]);
+        let mut nonce = [0; 13];
+        octets::xor_into(&mut nonce, &s[NONCE..]);
+        let mut frame = [0; 64];
+        octets::xor_into(&mut frame, &s[FRAME..]);
+        Opening {
+            key,
+            nonce,
+            frame,
+            associated: usize::from(s[3]),
+            payload: usize::from(s[4]),
+            tag: usize::from(s[5]),
+        }
+    }
+
+    // Whether a copy of the frame opens.
+    fn opens(&self, keys: &[u32; 44]) -> bool {
+        let mut copy = self.frame;
+        ccm::unseal(
+            keys,
+            self.nonce,
+            self.tag,
+            &mut copy,
+            self.associated,
+            self.payload,
+        )
+        .is_ok()
+    }
+
+    fn times_once_expanded(&self, rounds: u16) -> usize {
+        let keys = aes::expand(self.key);
+        (0..rounds).filter(|_| self.opens(&keys)).count()
+    }
+
+    fn times_each_expanded(&self, rounds: u16) -> usize {
+        (0..rounds)
+            .filter(|_| self.opens(&aes::expand(self.key)))
+            .count()
     }
 }
 
-fn open_once_expanded(s: &[u8], rounds: usize, at: usize, n: usize, tag: usize) -> usize {
-    let keys = aes::expand(key_of(s));
-    let nonce = nonce_of(s);
-    let frame = frame_of(s);
-    let mut opened = 0;
-    let mut i = 0;
-    while i < rounds {
-        opened += open_copy(&keys, nonce, frame, at, n, tag);
-        i += 1;
-    }
-    opened
-}
-
-fn open_each_expanded(s: &[u8], rounds: usize, at: usize, n: usize, tag: usize) -> usize {
-    let key = key_of(s);
-    let nonce = nonce_of(s);
-    let frame = frame_of(s);
-    let mut opened = 0;
-    let mut i = 0;
-    while i < rounds {
-        let keys = aes::expand(key);
-        opened += open_copy(&keys, nonce, frame, at, n, tag);
-        i += 1;
-    }
-    opened
-}
-
-fn wide(x: u8) -> usize
-    ensures { result < 256 }
-{
-    x as usize
-}
-
-fn open_as_told(s: &[u8; 128]) -> usize {
-    let rounds = wide(s[0]) + 256 * wide(s[1]);
-    let at = wide(s[3]);
-    let n = wide(s[4]);
-    let tag = wide(s[5]);
+fn times_opened(s: &[u8; MOST]) -> usize {
+    let rounds = u16::from_le_bytes([s[0], s[1]]);
+    let opening = Opening::from_input(s);
     if s[2] == 1 {
-        return open_each_expanded(s, rounds, at, n, tag);
+        opening.times_each_expanded(rounds)
+    } else {
+        opening.times_once_expanded(rounds)
     }
-    open_once_expanded(s, rounds, at, n, tag)
 }
 
-fn main() {
-    let mut input = [0u8; 128];
-    io::read_full(STDIN, &mut input);
-    io::print_decimal(STDOUT, open_as_told(&input) as u64);
-    io::write_all(STDOUT, b"\n");
+fn main(rt: HostRuntime) -> io::Result<()> {
+    let mut read = Vec::new(rt.alloc());
+    rt.stdin().take(MOST as u64).read_to_end(&mut read)?;
+    let mut input = [0; MOST];
+    octets::xor_into(&mut input, &read);
+    let opened = times_opened(&input);
+    println!(rt; "{opened}")
 }

@@ -15,6 +15,7 @@ pub fn first_block(s: &[u8]) -> [u8; 16]
 }
 
 // One block, with the tables of AES lent.
+#[tactic(auto, unfolding(crate::specs::Hash::step))]
 pub(crate) fn step(h: [u8; 16], x: [u8; 16], tables: CipherTables) -> [u8; 16]
     ensures { result ≡ step h x }
 {

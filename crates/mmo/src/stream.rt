@@ -23,6 +23,7 @@ pub struct Hashing {
 }
 
 // The start, from the zero block.
+#[tactic(auto, unfolding(crate::specs::Stream::started))]
 pub fn hash_start() -> Hashing
     ensures { result ≡ started zero_block }
 {
@@ -35,6 +36,7 @@ pub fn hash_start() -> Hashing
 }
 
 // The start from an initial block of the caller's, cut or filled with zeros to 16 bytes.
+#[tactic(auto, unfolding(crate::specs::Stream::started))]
 pub fn hash_start_from(initial: &[u8]) -> Hashing
     ensures { result ≡ started (filled initial.now) }
 {

@@ -37,6 +37,7 @@ pub fn pouchkettle_hash_start_from(initial: &[u8]) -> Hashing
 }
 
 // A part more. Past 536,870,911 bytes in all the number is 7 and the state as it was.
+#[tactic(auto, unfolding(mmo::specs::Stream::after_adding))]
 pub fn pouchkettle_hash_add(state: Hashing, part: &[u8]) -> ToldHashing
     ensures { (result.number ≡ outcome_number (hashing (state.total + length part.now)))
         × (result.state ≡ after_adding state part.now) }

@@ -1,7 +1,7 @@
 -- The frame reader (document 01): fields act in order, from level 5, active 0 and empty tables; a line for each frame.
 use Rattle.std.specs.Prelude.{ℕ, zero, suc, ◌+◌, ◌-◌, ◌%◌, ◌^◌, cond, not, List, [], ◌∷◌, length, take, drop, replicate, ◌==◌, nat_le, nat_lt, slice_index, slice_set, is_some, Option, None, Some, Result, Ok, Err, ⊤}
 use Rattle.laws.specs.Numbers.{field}
-use Rattle.answer.specs.Numbers.{Answer, told}
+use Rattle.answer.specs.Numbers.{told}
 use Rattle.cells.specs.Rows.{has_row}
 use Rattle.nib.specs.declared.keys.NetworkKey.{NetworkKey}
 use Rattle.nib.specs.declared.keys.NetworkKeys.{NetworkKeys}
@@ -57,14 +57,14 @@ bad r fault = record { event = Err (bad_field r fault); reader = r }
 abbrev pub quiet : Reader → Step
 quiet r = record { event = Ok Quiet; reader = r }
 
--- the answer to a field that has nothing to tell, and to any field, from the reader before it and after it
-abbrev pub quietly : Reader → Result ⊤ Fault → Reader → Step
-quietly r (Ok _) after = quiet after
-quietly r (Err fault) after = record { event = Err (bad_field r fault); reader = after }
+-- the answer to a field that has nothing to tell, and to any field, with the reader after it
+abbrev pub quietly : Result ⊤ Fault → Reader → Step
+quietly (Ok _) after = quiet after
+quietly (Err fault) after = bad after fault
 
-abbrev pub eventually : Reader → Result Event Fault → Reader → Step
-eventually r (Ok event) after = record { event = Ok event; reader = after }
-eventually r (Err fault) after = record { event = Err (bad_field r fault); reader = after }
+abbrev pub eventually : Result Event Fault → Reader → Step
+eventually (Ok event) after = record { event = Ok event; reader = after }
+eventually (Err fault) after = bad after fault
 
 -- ---- 0x01: a key row (number, key). Wrong length, surplus or repeated row: bad
 

@@ -16,10 +16,19 @@ pub enum Fault {
 impl fmt::Display for Fault {
     fn fmt<W: fmt::Write>(&self, f: &mut fmt::Formatter<W>) -> fmt::Result {
         match self {
-            Fault::UnknownTag => write!(f, "unknown tag; a field begins with 0x01, 0x02, 0x03 or 0x10"),
-            Fault::WrongLength => write!(f, "wrong length; a key row has 17 bytes, a counter row 13, an active number 1"),
+            Fault::UnknownTag => write!(
+                f,
+                "unknown tag; a field begins with 0x01, 0x02, 0x03 or 0x10"
+            ),
+            Fault::WrongLength => write!(
+                f,
+                "wrong length; a key row has 17 bytes, a counter row 13, an active number 1"
+            ),
             Fault::RepeatedKey => write!(f, "repeated row; there is a key of this number already"),
-            Fault::RepeatedRow => write!(f, "repeated row; there is a counter row of this key number and sender already"),
+            Fault::RepeatedRow => write!(
+                f,
+                "repeated row; there is a counter row of this key number and sender already"
+            ),
             Fault::ThirdKey => write!(f, "third key; there is room for two"),
             Fault::SurplusRow => write!(f, "65th counter row; there is room for 64"),
             Fault::CutField => write!(f, "cut field; the input ends within it"),

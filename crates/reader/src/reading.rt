@@ -7,7 +7,7 @@ use crate::faults::{BadField, Fault};
 use answer::{Answer, Refusal, Told};
 use by_value::CounterTable;
 use fields::field_at;
-use nib::{NetworkKeys, Nwk, Standing};
+use nib::{CounterRow, NetworkKeys, Nwk, Standing};
 
 // The gateway, the place in the input, and how many fields were read and frames presented.
 #[derive(Clone, Copy)]
@@ -71,7 +71,7 @@ impl Reader {
     // 0x01: number, key.
     #[tactic(auto, unfolding(crate::specs::Reading::key_field))]
     fn key_field(&mut self, body: &[u8]) -> Result<(), Fault>
-        ensures { quietly self.old result self.new ≡ key_field self.old body.now }
+        ensures { quietly result self.new ≡ key_field self.old body.now }
     {
         if body.len() != 17 {
             return Err(Fault::WrongLength);
@@ -92,14 +92,15 @@ impl Reader {
     }
 
     // 0x02: number, sender, counter.
-    #[tactic(auto, unfolding(crate::specs::Reading::counter_field))]
+    #[tactic(auto, using(crate::proofs::Steps::has_held), unfolding(crate::specs::Reading::counter_field))]
     fn counter_field(&mut self, body: &[u8]) -> Result<(), Fault>
-        ensures { quietly self.old result self.new ≡ counter_field self.old body.now }
+        ensures { quietly result self.new ≡ counter_field self.old body.now }
     {
         if body.len() != 13 {
             return Err(Fault::WrongLength);
         }
-        if 64 <= self.table.used {
+        let rows: &[CounterRow] = &self.table.rows;
+        if rows.len() <= self.table.used {
             return Err(Fault::SurplusRow);
         }
         let number = body[0];
@@ -108,15 +109,16 @@ impl Reader {
         if let Standing::Held(_) = by_value::held_with(&self.table, number, sender) {
             return Err(Fault::RepeatedRow);
         }
-        let recorded = by_value::record_with(self.table, number, sender, counter);
-        self.table = recorded.unwrap_or(self.table);
+        if let Ok(table) = by_value::record_with(self.table, number, sender, counter) {
+            self.table = table;
+        }
         Ok(())
     }
 
     // 0x03: the active number.
     #[tactic(auto, unfolding(crate::specs::Reading::active_field))]
     fn active_field(&mut self, body: &[u8]) -> Result<(), Fault>
-        ensures { quietly self.old result self.new ≡ active_field self.old body.now }
+        ensures { quietly result self.new ≡ active_field self.old body.now }
     {
         if body.len() != 1 {
             return Err(Fault::WrongLength);
@@ -126,6 +128,7 @@ impl Reader {
     }
 
     // A frame, opened in a copy. One of more than 1,024 bytes is refused as it stands (7).
+    #[tactic(auto, using(crate::proofs::Steps::too_long))]
     fn open(&mut self, body: &[u8]) -> Answer
         ensures value { result ≡ (open_nwk self.old.nwk self.old.table.rows self.old.table.used body.now).answer }
         ensures reader { self.new ≡ opened_by self.old (open_nwk self.old.nwk self.old.table.rows self.old.table.used body.now) }
@@ -144,6 +147,7 @@ impl Reader {
     }
 
     // 0x10: a frame.
+    #[tactic(auto, unfolding(crate::specs::Reading::frame_field))]
     fn frame_field(&mut self, body: &[u8]) -> Line
         ensures { telling result self.new ≡ frame_field self.old body.now }
     {
@@ -157,7 +161,7 @@ impl Reader {
 
     #[tactic(auto, unfolding(crate::specs::Reading::acted))]
     fn act(&mut self, tag: u8, body: &[u8]) -> Result<Event, Fault>
-        ensures { eventually self.old result self.new ≡ acted self.old tag body.now }
+        ensures { eventually result self.new ≡ acted self.old tag body.now }
     {
         match tag {
             0x01 => self.key_field(body)?,
@@ -170,7 +174,7 @@ impl Reader {
     }
 
     // One field of the input s, from where the reader stands. The reader goes past a whole field, whatever it gave.
-    #[tactic(auto, unfolding(crate::specs::Reading::stepped))]
+    #[tactic(auto, using(fields::specs::FieldLaws::lies), unfolding(crate::specs::Reading::stepped))]
     pub fn next(&mut self, s: &[u8]) -> Result<Event, BadField>
         ensures { record { event = result; reader = self.new } ≡ stepped self.old s.now }
     {
@@ -183,10 +187,8 @@ impl Reader {
         let Some(field) = read else {
             return Ok(Event::End);
         };
-        let event = match self.act(field.tag, &s[field.from..field.to]) {
-            Ok(event) => Ok(event),
-            Err(fault) => Err(self.bad(fault)),
-        };
+        let acted = self.act(field.tag, &s[field.from..field.to]);
+        let event = acted.map_err(|fault| self.bad(fault));
         self.at = field.to;
         self.fields = self.fields.wrapping_add(1);
         event

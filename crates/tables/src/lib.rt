@@ -79,13 +79,13 @@ pub fn cipher_tables() -> CipherTables<'static> {
 pub fn substituted(x: u8) -> u8
     ensures { result ≡ sbox x }
 {
-    SUBSTITUTION[x as usize]
+    substitution_table().bytes[x as usize]
 }
 
 pub fn round_entry(x: u8, i: u8) -> u8
     ensures { result ≡ get_or (twice (products (sbox x))) (i % 8) 0 }
 {
-    ROUND[8 * (x as usize) + (i % 8) as usize]
+    round_table().bytes[8 * (x as usize) + (i % 8) as usize]
 }
 
 // The length of the tag at a level; a level is the three low bits of a control byte.

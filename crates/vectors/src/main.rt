@@ -3,235 +3,193 @@
 // program computed with OpenSSL's AES and CCM and nothing of this project.
 #![tactic(auto)]
 
-ghost use Rattle.std.specs.Prelude.{◌<◌};
+mod fields;
 
-use answer::Outcome;
-use mmo::Digest;
+use answer::Refusal;
+use fields::{Field, Fields, number};
+use std::io;
+use std::io::{Read, Write};
 
-// Standard input, as the kit's `io` takes it.
-const STDIN: i32 = 0;
+// The most that is read.
+const MOST: u64 = 65536;
 
-// Standard output.
-const STDOUT: i32 = 1;
-
-// A part of the input.
 #[derive(Clone, Copy)]
-struct Span {
-    from: usize,
-    to: usize,
+enum Kind {
+    Block,
+    Ccm,
+    Hash,
+    HashFrom,
+    KeyedHash,
+}
+
+impl TryFrom<usize> for Kind {
+    type Error = ();
+
+    fn try_from(kind: usize) -> Result<Kind, ()> {
+        match kind {
+            1 => Ok(Kind::Block),
+            2 => Ok(Kind::Ccm),
+            3 => Ok(Kind::Hash),
+            4 => Ok(Kind::HashFrom),
+            5 => Ok(Kind::KeyedHash),
+            _ => Err(()),
+        }
+    }
 }
 
 // The vector that is being read.
 #[derive(Clone, Copy)]
-struct Vector {
-    name: Span,
-    key: Span,
-    nonce: Span,
+struct Vector<'a> {
+    name: &'a [u8],
+    key: &'a [u8],
+    nonce: &'a [u8],
     associated: usize,
-    data: Span,
-    long: Span,
+    data: &'a [u8],
+    long: &'a [u8],
     tag: usize,
 }
 
-fn wide(x: u8) -> usize
-    ensures { result < 256 }
-{
-    x as usize
-}
-
-// The bytes of a span, or none where it lies outside.
-fn part(s: &[u8], span: Span) -> &[u8] {
-    let from = span.from;
-    let to = span.to;
-    if to <= s.len() {
-        if from <= to {
-            return &s[from..to];
+impl<'a> Vector<'a> {
+    fn empty() -> Vector<'a> {
+        Vector {
+            name: &[],
+            key: &[],
+            nonce: &[],
+            associated: 0,
+            data: &[],
+            long: &[],
+            tag: 0,
         }
     }
-    &s[..0]
-}
 
-// The first bytes of a span, n of them, or all of it where there are fewer.
-fn first(span: Span, n: usize) -> Span {
-    let from = span.from;
-    let to = span.to;
-    if from <= to {
-        if n <= to - from {
-            return Span { from, to: from + n };
-        }
-    }
-    span
-}
-
-// The number in one or two bytes, low byte first.
-fn number(s: &[u8]) -> usize {
-    if s.len() == 1 {
-        return wide(s[0]);
-    }
-    if s.len() == 2 {
-        return wide(s[0]) + 256 * wide(s[1]);
-    }
-    0
-}
-
-fn print_text(s: &[u8]) {
-    io::write_all(STDOUT, s);
-}
-
-fn print_bytes(s: &[u8]) {
-    let mut i = 0;
-    while i < s.len() {
-        io::print_hex(STDOUT, wide(s[i]) as u64, 2);
-        i += 1;
-    }
-}
-
-fn print_outcome(outcome: Outcome) {
-    io::print_decimal(STDOUT, answer::outcome_number(outcome) as u64);
-    print_text(b" ");
-}
-
-fn print_digest(digest: Digest) {
-    let outcome = digest.outcome;
-    let value = digest.value;
-    print_outcome(outcome);
-    print_bytes(&value);
-}
-
-// The first sixteen bytes, zeros where there are fewer.
-fn sixteen(s: &[u8]) -> [u8; 16] {
-    let mut out = [0u8; 16];
-    octets::xor_into(&mut out, s);
-    out
-}
-
-fn thirteen(s: &[u8]) -> [u8; 13] {
-    let mut out = [0u8; 13];
-    octets::xor_into(&mut out, s);
-    out
-}
-
-fn run_block(key: &[u8], data: &[u8]) {
-    let keys = aes::expand(sixteen(key));
-    let out = aes::encrypt(&keys, sixteen(data));
-    print_bytes(&out);
-}
-
-// The byte at i changed in its lowest bit.
-fn change(s: &mut [u8], i: usize) {
-    if i < s.len() {
-        s[i] = s[i] ^ 1;
-    }
-}
-
-// Seals the data from `at` on, with what lies before as associated data; opens what was sealed, and opens it once more with the first byte of its tag changed.
-fn run_ccm(key: &[u8], nonce: [u8; 13], at: usize, data: &[u8], tag: usize) {
-    let end = data.len();
-    if end < at {
-        return;
-    }
-    if 128 < end {
-        return;
-    }
-    if 16 < tag {
-        return;
-    }
-    let n = end - at;
-    let keys = aes::expand(sixteen(key));
-    let mut frame = [0u8; 144];
-    octets::xor_into(&mut frame, data);
-    print_text(b"sealed ");
-    print_outcome(ccm::seal(&keys, nonce, tag, &mut frame, at, n));
-    print_bytes(part(
-        &frame,
-        Span {
-            from: at,
-            to: end + tag,
-        },
-    ));
-    let mut forged = frame;
-    print_text(b", opened ");
-    print_outcome(ccm::unseal(&keys, nonce, tag, &mut frame, at, n));
-    print_bytes(part(&frame, Span { from: at, to: end }));
-    change(&mut forged, end);
-    print_text(b", with a changed tag ");
-    print_outcome(ccm::unseal(&keys, nonce, tag, &mut forged, at, n));
-    print_bytes(part(&forged, Span { from: at, to: end }));
-}
-
-fn run(s: &[u8], v: Vector, kind: usize) {
-    let key = part(s, v.key);
-    let data = part(s, v.data);
-    print_text(part(s, v.name));
-    print_text(b": ");
-    match kind {
-        1 => run_block(key, data),
-        2 => run_ccm(key, thirteen(part(s, v.nonce)), v.associated, data, v.tag),
-        3 => print_digest(primitives::hash(data)),
-        4 => print_digest(primitives::hash_from(key, data)),
-        5 => print_digest(primitives::keyed_hash(key, data)),
-        _ => print_text(b"unknown kind"),
-    }
-    print_text(b"\n");
-}
-
-// The vector after one more field.
-fn with_field(s: &[u8], v: Vector, tag: u8, body: Span) -> Vector {
-    let n = number(part(s, body));
-    let mut next = v;
-    match tag {
-        1 => next.name = body,
-        2 => next.key = body,
-        3 => next.nonce = body,
-        4 => next.associated = n,
-        5 => next.data = body,
-        6 => next.tag = n,
-        7 => next.long = body,
-        8 => next.key = first(v.long, n),
-        9 => next.data = first(v.long, n),
-        _ => {}
-    }
-    next
-}
-
-fn run_all(s: &[u8]) {
-    let none = Span { from: 0, to: 0 };
-    let mut v = Vector {
-        name: none,
-        key: none,
-        nonce: none,
-        associated: 0,
-        data: none,
-        long: none,
-        tag: 0,
-    };
-    let mut at = 0;
-    while 3 <= s.len() - at {
-        let tag = s[at];
-        let from = at + 3;
-        let size = number(part(
-            s,
-            Span {
-                from: at + 1,
-                to: from,
+    // The vector after one more field.
+    fn with(self, field: Field, body: &'a [u8]) -> Vector<'a> {
+        let n = number(body);
+        match field {
+            Field::Name => Vector { name: body, ..self },
+            Field::Key => Vector { key: body, ..self },
+            Field::Nonce => Vector {
+                nonce: body,
+                ..self
             },
-        ));
-        if s.len() - from < size {
-            return;
+            Field::Associated => Vector {
+                associated: n,
+                ..self
+            },
+            Field::Data => Vector { data: body, ..self },
+            Field::Tag => Vector { tag: n, ..self },
+            Field::Long => Vector { long: body, ..self },
+            Field::KeyOfLong => Vector {
+                key: first(self.long, n),
+                ..self
+            },
+            Field::DataOfLong => Vector {
+                data: first(self.long, n),
+                ..self
+            },
+            Field::Run | Field::Unknown => self,
         }
-        let to = from + size;
-        let body = Span { from, to };
-        if tag == 16 {
-            run(s, v, number(part(s, body)));
+    }
+
+    fn run(self, rt: &HostRuntime, kind: Result<Kind, ()>) -> io::Result<()> {
+        rt.stdout().write_all(self.name)?;
+        print!(rt; ": ")?;
+        match kind {
+            Ok(Kind::Block) => self.run_block(rt)?,
+            Ok(Kind::Ccm) => self.run_ccm(rt)?,
+            Ok(Kind::Hash) => print_digest(rt, primitives::hash(self.data))?,
+            Ok(Kind::HashFrom) => print_digest(rt, primitives::hash_from(self.key, self.data))?,
+            Ok(Kind::KeyedHash) => print_digest(rt, primitives::keyed_hash(self.key, self.data))?,
+            Err(()) => print!(rt; "unknown kind")?,
         }
-        let next = with_field(s, v, tag, body);
-        v = next;
-        at = to;
+        println!(rt; "")
+    }
+
+    fn run_block(self, rt: &HostRuntime) -> io::Result<()> {
+        let keys = aes::expand(filled(self.key));
+        print_bytes(rt, &aes::encrypt(&keys, filled(self.data)))
+    }
+
+    // Seals the data from `associated` on, with what lies before as associated data; opens what was sealed, and opens it once more with
+    // the first byte of its tag changed.
+    fn run_ccm(self, rt: &HostRuntime) -> io::Result<()> {
+        let at = self.associated;
+        let end = self.data.len();
+        if end < at || 128 < end || 16 < self.tag {
+            return Ok(());
+        }
+        let n = end - at;
+        let keys = aes::expand(filled(self.key));
+        let nonce = filled(self.nonce);
+        let mut frame: [u8; 144] = filled(self.data);
+        print!(rt; "sealed ")?;
+        print_outcome(rt, ccm::seal(&keys, nonce, self.tag, &mut frame, at, n))?;
+        print_bytes(rt, &frame[at..end + self.tag])?;
+        let mut forged = frame;
+        print!(rt; ", opened ")?;
+        print_outcome(rt, ccm::unseal(&keys, nonce, self.tag, &mut frame, at, n))?;
+        print_bytes(rt, &frame[at..end])?;
+        forged[end] ^= 1;
+        print!(rt; ", with a changed tag ")?;
+        print_outcome(rt, ccm::unseal(&keys, nonce, self.tag, &mut forged, at, n))?;
+        print_bytes(rt, &forged[at..end])
     }
 }
 
-fn main() {
-    let mut space = io::large_buffer();
-    let n = io::read_full(STDIN, &mut space);
-    run_all(&space[..n]);
+// The first n bytes, or all of them where there are fewer.
+fn first(s: &[u8], n: usize) -> &[u8] {
+    s.get(..n).unwrap_or(s)
+}
+
+// The first N bytes, zeros where there are fewer.
+fn filled<const N: usize>(s: &[u8]) -> [u8; N] {
+    let mut out = [0; N];
+    octets::xor_into(&mut out, s);
+    out
+}
+
+fn print_bytes(rt: &HostRuntime, s: &[u8]) -> io::Result<()> {
+    for x in s {
+        print!(rt; "{x:02x}")?;
+    }
+    Ok(())
+}
+
+fn print_outcome(rt: &HostRuntime, outcome: Result<(), Refusal>) -> io::Result<()> {
+    let number = answer::outcome_number(outcome);
+    print!(rt; "{number} ")
+}
+
+// A refusal's value is printed as zeros.
+fn print_digest(rt: &HostRuntime, digest: Result<[u8; 16], Refusal>) -> io::Result<()> {
+    print_outcome(rt, digest.map(|_| ()))?;
+    print_bytes(rt, &digest.unwrap_or([0; 16]))
+}
+
+// The vector after one more field, which may be that it is to be run.
+fn followed<'a>(
+    rt: &HostRuntime,
+    vector: Vector<'a>,
+    field: Field,
+    body: &'a [u8],
+) -> io::Result<Vector<'a>> {
+    if let Field::Run = field {
+        vector.run(rt, Kind::try_from(number(body)))?;
+    }
+    Ok(vector.with(field, body))
+}
+
+fn run_all(rt: &HostRuntime, s: &[u8]) -> io::Result<()> {
+    let mut vector = Vector::empty();
+    for (field, body) in Fields::of(s) {
+        let next = followed(rt, vector, field, body)?;
+        vector = next;
+    }
+    Ok(())
+}
+
+fn main(rt: HostRuntime) -> io::Result<()> {
+    let mut input = Vec::new(rt.alloc());
+    rt.stdin().take(MOST).read_to_end(&mut input)?;
+    run_all(&rt, &input)
 }

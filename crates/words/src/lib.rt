@@ -1,11 +1,11 @@
 // Blocks of sixteen bytes held as four words of four bytes, the first byte lowest: what AES calls a state, its columns the words.
 #![tactic(auto)]
 
-ghost use Rattle.std.specs.Prelude.{◌≡◌, [], ◌∷◌, ◌%◌};
+ghost use Rattle.std.specs.Prelude.{◌≡◌, [], ◌∷◌};
 ghost use Rattle.laws.specs.Octets.{◌⊕◌};
 ghost use Rattle.words.specs.Words.{bytes, block_of};
 
-#[derive(Clone, Copy)]
+#[derive(Clone, Copy, Debug, PartialEq, Eq)]
 pub struct State {
     pub a: u32,
     pub b: u32,
@@ -13,23 +13,11 @@ pub struct State {
     pub d: u32,
 }
 
-fn wide(x: u8) -> u32
-    ensures { result ≡ x }
-{
-    x as u32
-}
-
-fn byte(x: u32) -> u8
-    ensures { result ≡ x % 256 }
-{
-    (x % 256) as u8
-}
-
 // The word of four bytes.
 pub fn joined(a: u8, b: u8, c: u8, d: u8) -> u32
     ensures { bytes result ≡ a ∷ b ∷ c ∷ d ∷ [] }
 {
-    wide(a) + wide(b) * 256 + wide(c) * 65536 + wide(d) * 16777216
+    u32::from_le_bytes([a, b, c, d])
 }
 
 // Two words, added byte by byte (FIPS 197, 4.1: addition is XOR).
@@ -65,22 +53,11 @@ pub fn state_of(block: [u8; 16]) -> State
 pub fn block_of(s: State) -> [u8; 16]
     ensures { result ≡ block_of s }
 {
+    let [a0, a1, a2, a3] = s.a.to_le_bytes();
+    let [b0, b1, b2, b3] = s.b.to_le_bytes();
+    let [c0, c1, c2, c3] = s.c.to_le_bytes();
+    let [d0, d1, d2, d3] = s.d.to_le_bytes();
     [
-        byte(s.a),
-        byte(s.a / 256),
-        byte(s.a / 65536),
-        byte(s.a / 16777216),
-        byte(s.b),
-        byte(s.b / 256),
-        byte(s.b / 65536),
-        byte(s.b / 16777216),
-        byte(s.c),
-        byte(s.c / 256),
-        byte(s.c / 65536),
-        byte(s.c / 16777216),
-        byte(s.d),
-        byte(s.d / 256),
-        byte(s.d / 65536),
-        byte(s.d / 16777216),
+        a0, a1, a2, a3, b0, b1, b2, b3, c0, c1, c2, c3, d0, d1, d2, d3,
     ]
 }
