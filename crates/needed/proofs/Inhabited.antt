@@ -12,7 +12,8 @@ use Rattle.cells.specs.Rows.{find, has_row, room, settle, new_keys}
 use Rattle.control.specs.Control.{has_sender, has_number, identifier_of}
 use Rattle.auxiliary_header.specs.Auxiliary.{auxiliary_at}
 use Rattle.auxiliary_header.specs.declared.auxiliary.KeyUsed.TheVariants as used
-use Rattle.frame_header.specs.Nwk.{nwk_of, nwk_length, nwk_fixed}
+use Rattle.frame_header.specs.declared.network.NwkKind.TheVariants.{Data}
+use Rattle.frame_header.specs.Nwk.{nwk_of, nwk_kind, nwk_length, nwk_fixed}
 use Rattle.nib.specs.declared.counters.CounterRow.{CounterRow}
 use Rattle.nib.specs.Counters.{empty}
 use Rattle.nib.specs.Keys.{key_found}
@@ -89,9 +90,9 @@ p8 = record {
 
 -- a plain frame of a header alone
 pub p10 : NwkSends (state 2 2) (0x08 ∷ 0x02 ∷ 0x00 ∷ 0x00 ∷ 0x34 ∷ 0x12 ∷ 0x1E ∷ 0x01 ∷ [])
-unfolding nwk_of nwk_length nwk_fixed field value bit key_found find
+unfolding nwk_of nwk_kind nwk_length nwk_fixed field value bit key_found find
 p10 = record {
-  header = record { len = 8; kind = 0; secured = true };
+  header = record { len = 8; kind = Data; secured = true };
   level = refl;
   keys = omega arith;
   size = omega arith;

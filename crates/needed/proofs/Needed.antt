@@ -1,8 +1,7 @@
 -- WHY DEMAND 3 ASKS WHAT IT ASKS. Without any one of the hypotheses of `nwk-in-any-order` (the active number, the free rows, the order) it does
 -- not hold, not even at level 5 and with at most two keys: each theorem here takes one away, and frames that are there to see (OnAir.antt,
 -- Desks.antt) refute what is left. Level and number of keys are not needed: in another state every frame is answered 7. Assumes nothing.
-use Rattle.std.specs.Prelude.{Err, Ok}
-use Rattle.std.specs.Prelude.{◌≡◌, refl, ℕ, ◌+◌, ◌≤◌, length}
+use Rattle.std.specs.Prelude.{Err, Ok, ◌≡◌, refl, ℕ, ◌+◌, ◌≤◌, length}
 use Rattle.std.proofs.Common.{sym, ap, ◌∙◌, arith}
 use mathlib.Core.List.Memᴰ.{head as here}
 use mathlib.Core.List.{List, Memᴰ as Mem}

@@ -1,7 +1,6 @@
 -- NWK frames as they go on the air, without payload: what they claim, and that their tags are right, computed by AES and CCM as they
 -- are defined. Assumes nothing.
-use Rattle.std.specs.Prelude.{◌≡◌, refl, true, [], ◌∷◌, ℕ, Ok}
-use Rattle.std.specs.Prelude.{None, Some}
+use Rattle.std.specs.Prelude.{◌≡◌, refl, true, [], ◌∷◌, ℕ, Ok, None, Some}
 use Rattle.laws.specs.Octets.{same, ◌⊕◌}
 use Rattle.laws.specs.Blocks.{blocks, cut}
 use Rattle.laws.specs.Numbers.{low, field, value, bit}

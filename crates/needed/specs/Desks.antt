@@ -1,6 +1,5 @@
 -- Desks with the two frames of OnAir.antt, opened forth and back, and what they end with: computed. Assumes nothing.
-use Rattle.std.specs.Prelude.{cond, List, [], ◌∷◌, ℕ, eqb, replicate}
-use Rattle.std.specs.Prelude.{None}
+use Rattle.std.specs.Prelude.{cond, List, [], ◌∷◌, ℕ, eqb, replicate, None}
 use Rattle.nib.specs.declared.keys.NetworkKey.{NetworkKey}
 use Rattle.nib.specs.declared.keys.NetworkKeys.{NetworkKeys}
 use Rattle.nib.specs.Counters.{empty}

@@ -1,7 +1,6 @@
 -- NWK frames as they go on the air, without payload: what they claim, and that their tags are right, computed by AES and CCM as they
 -- are defined. Assumes nothing.
-use Rattle.std.specs.Prelude.{Ok}
-use Rattle.std.specs.Prelude.{◌≡◌, true, List, [], ◌∷◌, ℕ}
+use Rattle.std.specs.Prelude.{◌≡◌, List, [], ◌∷◌, ℕ, Some, Ok}
 use Rattle.auxiliary_header.specs.declared.auxiliary.KeyUsed.TheVariants as used
 use Rattle.answer.specs.declared.Accepted.TheVariants.{Done}
 use Rattle.answer.specs.declared.Refusal.TheVariants.{TableFull}
@@ -50,4 +49,4 @@ opens_fresh b = become (counting 5) (record { answer = Ok (Done 22 0); frame = o
 
 -- the keys have the row that the frame names
 abbrev pub Has : NetworkKeys → ℕ → Type 0
-Has keys n = key_found keys n ≡ record { found = true; row = record { number = n; key = key } }
+Has keys n = key_found keys n ≡ Some (record { number = n; key = key })

@@ -1,5 +1,5 @@
 -- The frames in the buffers 0 and 1, forth and back. Assumes nothing.
-use Rattle.std.specs.Prelude.{◌≡◌, ◌⊎◌, ℕ}
+use Rattle.std.specs.Prelude.{◌≡◌, ◌⊎◌, ℕ, Option, None, Some}
 use Rattle.std.proofs.Common.{inl, inr, arith}
 use mathlib.Core.List.Memᴰ.{cases_cons}
 use mathlib.Core.List.Memᴰ.{eq_of_singleton}
@@ -8,9 +8,7 @@ use mathlib.Core.List.Memᴰ.{not-nil}
 use mathlib.Core.List.Memᴰ.{tail as there}
 use mathlib.Core.List.Sublistᴰ
 use mathlib.Core.List.{List, [], ◌∷◌, Memᴰ as Mem, Sublistᴰ as Sublist}
-use Rattle.std.specs.Prelude.{Option, None, Some}
-use Rattle.answer.specs.Numbers.{Answer}
-use Rattle.answer.specs.Numbers.{told}
+use Rattle.answer.specs.Numbers.{Answer, told}
 use Rattle.cells.specs.Lists.{Distinct, Before}
 use Rattle.cells.specs.ListLaws.{part-mem, second}
 use Rattle.cells.specs.Reorder.{Reordered}

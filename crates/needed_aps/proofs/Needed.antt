@@ -1,7 +1,6 @@
 -- THE SAME FOR APS. Without any one of the hypotheses of `aps-in-any-order` (the free rows, the order) it does not hold, not even at level 5.
 -- Assumes nothing.
-use Rattle.std.specs.Prelude.{Err, Ok}
-use Rattle.std.specs.Prelude.{◌≡◌, refl, ℕ, ◌+◌, ◌≤◌, length}
+use Rattle.std.specs.Prelude.{Err, Ok, ◌≡◌, refl, ℕ, ◌+◌, ◌≤◌, length}
 use Rattle.std.proofs.Common.{sym, ap, ◌∙◌, arith}
 use mathlib.Core.List.{List, Memᴰ as Mem}
 use Rattle.answer.specs.declared.Accepted.TheVariants.{Done}

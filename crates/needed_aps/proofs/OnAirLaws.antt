@@ -1,7 +1,6 @@
 -- Two APS frames as they go on the air, commands without payload under the trust centre link key: what they claim, and that their tags are right,
 -- computed by AES and CCM as they are defined. Assumes nothing.
-use Rattle.std.specs.Prelude.{◌≡◌, refl, true, Ok}
-use Rattle.std.specs.Prelude.{None, Some}
+use Rattle.std.specs.Prelude.{◌≡◌, refl, true, Ok, None, Some}
 use Rattle.laws.specs.Octets.{same, ◌⊕◌}
 use Rattle.laws.specs.Blocks.{blocks, cut}
 use Rattle.laws.specs.Numbers.{low, field, value, bit}

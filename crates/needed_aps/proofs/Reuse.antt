@@ -2,8 +2,7 @@
 -- both start at outgoing 0 (document 01, 'Opening APS'). So the first frame that is secured to the one and the first to the other go out under one
 -- key and one nonce: here the same plain frame gives the same octets. What holds is said of each pair row (crate `order`, proofs/Nonces.antt).
 -- Assumes nothing.
-use Rattle.std.specs.Prelude.{Ok}
-use Rattle.std.specs.Prelude.{◌≡◌, refl, true, List, [], ◌∷◌, ℕ, replicate}
+use Rattle.std.specs.Prelude.{Ok, ◌≡◌, refl, true, List, [], ◌∷◌, ℕ, replicate}
 use Rattle.answer.specs.declared.Accepted.TheVariants.{Done}
 use Rattle.laws.specs.Numbers.{bit}
 use Rattle.cells.specs.First.{first, at_first}

@@ -1,6 +1,5 @@
 -- Desks with the two frames of OnAir.antt, opened forth and back, and what they end with: computed. Assumes nothing.
-use Rattle.std.specs.Prelude.{cond, List, [], ◌∷◌, ℕ, eqb}
-use Rattle.std.specs.Prelude.{None}
+use Rattle.std.specs.Prelude.{cond, List, [], ◌∷◌, ℕ, eqb, None}
 use Rattle.aib.specs.declared.pairs.PairRow.{PairRow}
 use Rattle.aib.specs.Pairs.{new_row}
 use Rattle.order.specs.Aps.{ApsDesk}

@@ -1,7 +1,6 @@
 -- Two APS frames as they go on the air, commands without payload under the trust centre link key: what they claim, and that their tags are right,
 -- computed by AES and CCM as they are defined. Assumes nothing.
-use Rattle.std.specs.Prelude.{Ok}
-use Rattle.std.specs.Prelude.{List, [], ◌∷◌, ℕ}
+use Rattle.std.specs.Prelude.{Ok, List, [], ◌∷◌, ℕ}
 use Rattle.auxiliary_header.specs.declared.auxiliary.KeyUsed.TheVariants as used
 use Rattle.answer.specs.declared.Accepted.TheVariants.{Done}
 use Rattle.answer.specs.declared.Refusal.TheVariants.{TableFull}

@@ -1,16 +1,13 @@
 -- No APS frame opens twice: the proof. Assumes nothing.
-use Rattle.std.specs.Prelude.{◌≡◌, refl, Bool, true, false, cond, not, List, ℕ, ◌+◌, ◌≤◌, ltb, length, drop, Err, Ok, Result}
-use Rattle.std.proofs.Common.{sym, ap, ◌∙◌, le_trans, arith, length-take, eq-eqb, ne_eqb, lt-ltb}
-use Rattle.std.specs.Prelude.{Option, None, Some}
-use Rattle.std.proofs.lemmas.Option.{none-some, same_Some}
+use Rattle.std.specs.Prelude.{◌≡◌, refl, Bool, true, false, cond, not, List, ℕ, ◌+◌, ◌≤◌, ltb, length, drop, Err, Ok, Result, Option, None, Some}
+use Rattle.std.proofs.Common.{ap, ◌∙◌, le_trans, arith, length-take, eq-eqb, ne_eqb, lt-ltb}
 use Rattle.std.proofs.Math.Seq.{take-append_seam}
 use Rattle.answer.specs.declared.Refusal.TheVariants.{Unsupported, CounterRepeated, CounterBehind}
 use Rattle.cells.specs.First.{at_first}
-use Rattle.cells.specs.ListLaws.{clash, either, which}
+use Rattle.cells.specs.ListLaws.{either, which}
 use Rattle.cells.specs.Rows.{Reaction, find, settle}
 use Rattle.cells.specs.Machine.{final}
-use Rattle.aib.specs.declared.counters.Advanced.{Advanced}
-use Rattle.aib.specs.Counters.{in_use, holding, raised, heard}
+use Rattle.aib.specs.Counters.{Advanced, in_use, holding, raised, heard}
 use Rattle.aib.specs.Pairs.{PairCell, pair_rows, may_use}
 use Rattle.answer.specs.declared.Refusal.{Refusal}
 use Rattle.claims.specs.declared.Claim.{Claim}
@@ -52,8 +49,8 @@ rising c held b =
 
 reacts : (b : List ℕ) (w : Result Who Refusal) (k : ℕ) → sender_of w ≡ Some k → (held : Option PairCell) → Rising (λ p. p.incoming) opens (counter_of w) held (reaction b w held)
 unfolding reaction
-reacts b (Err why) k e held = absurd (none-some k e)
-reacts b (Ok (who.Plain start len)) k e held = absurd (none-some k e)
+reacts b (Err why) k e held = cc
+reacts b (Ok (who.Plain start len)) k e held = cc
 reacts b (Ok (who.Claims c)) k e held = rising c held b
 
 opens-good : (g : Gateway) (b : List ℕ) → opens (answer g b) ≡ true → Good g
@@ -63,7 +60,7 @@ opens-good g b = at (aps_unfit g.aps g.pairs) refl
     at : (t : Bool) → aps_unfit g.aps g.pairs ≡ t
         → (let o = cond t (aps-unchanged g.pairs (refused Unsupported b)) (aps_placed g.pairs b (aps_who b)) in opens (record { answer = o.answer; frame = o.frame }) ≡ true)
         → Good g
-    at true e f = clash false f refl
+    at true e f = cc
     at false e f = taken-good g e
 
 stale : (g : Gateway) → Good g → (b : List ℕ) (c : Claim) → aps_who b ≡ Ok (who.Claims c) → (p : PairCell) → held_pair g c.sender ≡ Some p → c.counter ≤ p.incoming
@@ -97,8 +94,8 @@ raised-holds g device sender h p =
 
     at : (o : Option PairCell) → find pair_rows (at_first (may_use device) raised (in_use g.pairs)) sender ≡ o
         → AtLeast (λ (p : PairCell). p.incoming) opens h o
-    at None e = absurd (none-some _ (sym (ap incoming e) ∙ same))
-    at (Some q) e = let n : q.incoming ≡ p.least.cell.incoming = same_Some _ _ (sym (ap incoming e) ∙ same) in record { cell = q; is = refl; up = omega (arith, p.least.up) }
+    at None e = cc (ap incoming e, same)
+    at (Some q) e = let n : q.incoming ≡ p.least.cell.incoming = cc (ap incoming e, same) in record { cell = q; is = refl; up = omega (arith, p.least.up) }
 
 keeps : (sender h : ℕ) (g : Gateway) (f : Step) → Holds sender h g → Holds sender h (after_step g f)
 unfolding machine

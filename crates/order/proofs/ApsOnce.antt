@@ -1,8 +1,6 @@
 -- The outgoing counter of a pair row through any calls of APS: it never falls, and rises above what was used. Assumes nothing.
-use Rattle.std.specs.Prelude.{◌≡◌, refl, Bool, true, false, cond, List, ℕ, ◌≤◌, ◌<◌, ◌^◌, eqb, length, drop, get_or}
+use Rattle.std.specs.Prelude.{◌≡◌, refl, Bool, true, false, cond, List, ℕ, ◌≤◌, ◌<◌, ◌^◌, eqb, length, drop, get_or, Option, None, Some}
 use Rattle.std.proofs.Common.{sym, ap, ◌∙◌, arith, eqb-true}
-use Rattle.std.specs.Prelude.{Option, None, Some}
-use Rattle.std.proofs.lemmas.Option.{none-some}
 use Rattle.std.proofs.Math.Seq.{take-append_seam}
 use Rattle.std.proofs.lemmas.Bool.{eqb-false}
 use Rattle.laws.specs.Numbers.{field}
@@ -10,10 +8,9 @@ use Rattle.cells.specs.First.{first, at_first}
 use Rattle.cells.specs.Lists.{Distinct}
 use Rattle.cells.specs.ListLaws.{either}
 use Rattle.frame_header.specs.Aps.{aps_length}
-use Rattle.aib.specs.declared.counters.Advanced.{Advanced}
 use Rattle.aib.specs.declared.pairs.PairRow.{PairRow}
 use Rattle.aib.specs.declared.pairs.Pairs.{Pairs}
-use Rattle.aib.specs.Counters.{in_use, holding, raised}
+use Rattle.aib.specs.Counters.{Advanced, in_use, holding, raised}
 use Rattle.aib.specs.Pairs.{may_use}
 use Rattle.claims.specs.Claims.{spent}
 use Rattle.aps.specs.SecureAps.{Secured, identifier_for}
@@ -92,10 +89,10 @@ nonces-once to g steps small =
     used-once (nonce_used to) after_step (λ n. field n 8 4) (outgoing_to to) (λ g. outgoing_to to g < 2 ^ 32) (λ g f. (counter-moves to g f).fits) (λ g f h. (counter-moves to g f).up) lifts g steps small
   where
     lifts : (g : Gateway) (f : Step) (x : List ℕ) → outgoing_to to g < 2 ^ 32 → nonce_used to g f ≡ Some x → (outgoing_to to g ≤ field x 8 4) × (field x 8 4 < outgoing_to to (after_step g f))
-    lifts g (opening frame) x h e = absurd (none-some x e)
+    lifts g (opening frame) x h e = cc
     lifts g (securing device extended plain out) x h e =
         let m = secured-moves to _ g device extended plain out (aps.securing g.aps g.pairs device extended plain out) in
         let u = m.uses x e in
         let n : field x 8 4 ≡ outgoing_to to g = ap (λ (y : List ℕ). field y 8 4) (sym u.0) ∙ counter-in g.aps.own (outgoing_to to g) (control_of (identifier_for plain (aps_length (get_or plain 0 0)))) h in
         (omega arith, omega (arith, u.1))
-    lifts g (advancing device) x h e = absurd (none-some x e)
+    lifts g (advancing device) x h e = cc

@@ -1,9 +1,8 @@
 -- Opening APS frames is a machine in the sense of `cells`: a frame acts on the row of its own sender alone. So the law of `cells` says
 -- what order leaves as it is in a list of APS openings; a state that is not taken answers every frame 7. Assumes nothing.
-use Rattle.std.specs.Prelude.{◌≡◌, Bool, true, false, List, ℕ, ◌+◌, ◌≤◌, length}
+use Rattle.std.specs.Prelude.{◌≡◌, Bool, true, false, List, ℕ, ◌+◌, ◌≤◌, length, None}
 use Rattle.std.proofs.Math.Path.{refl}
 use Rattle.std.proofs.Common.{ap, ◌∙◌, arith}
-use Rattle.std.specs.Prelude.{None}
 use Rattle.std.proofs.Math.ListN.{length-take}
 use Rattle.cells.specs.Rows.{reply_of}
 use Rattle.cells.specs.Machine.{Machine}

@@ -1,9 +1,8 @@
 -- An opening of an APS frame: what it does to the row of the sender that the frame names. Assumes nothing.
-use Rattle.std.specs.Prelude.{◌≡◌, false, not, List, ℕ, ◌≤◌, length, drop, eqb, Err, Ok, Result}
-use Rattle.std.proofs.Math.Path.{refl, sym}
+use Rattle.std.specs.Prelude.{◌≡◌, false, not, List, ℕ, ◌≤◌, length, drop, eqb, Err, Ok, Result, None, Some}
+use Rattle.std.proofs.Math.Path.{refl}
 use Rattle.std.proofs.Common.{arith}
-use Rattle.std.specs.Prelude.{None, Some}
-use Rattle.std.proofs.lemmas.Option.{none-some, same_Some}
+use Rattle.std.proofs.lemmas.Option.{same_Some}
 use Rattle.std.proofs.Math.ListN.{length-take}
 use Rattle.std.proofs.Math.Seq.{take-append_seam}
 use borrow.Author.Tests.{eq-eqb, eqb-true, le-ltb, ltb-false}
@@ -37,8 +36,8 @@ module _ (g : Gateway) (b : List ℕ) (h : Good g) where
   pub named-placed : (k : ℕ) (w : Result Who Refusal) → sender_of w ≡ Some k
       → settled (aps_placed g.pairs b w) ≡ settle pair_rows 16 (in_use g.pairs) k (reaction b w (find pair_rows (in_use g.pairs) k))
   unfolding aps_placed reaction
-  named-placed k (Err why) e = absurd (none-some k e)
-  named-placed k (Ok (who.Plain start len)) e = absurd (none-some k e)
+  named-placed k (Err why) e = cc
+  named-placed k (Ok (who.Plain start len)) e = cc
   named-placed k (Ok (who.Claims c)) e =
       let t = settle pair_rows 16 (in_use g.pairs) c.sender (aps_judged c (find pair_rows (in_use g.pairs) c.sender) b) in
       rw (← same_Some c.sender k e) (λ i. record { out = t.out; rows = take-append_seam t.rows (drop (length t.rows) g.pairs.rows) i })
@@ -48,7 +47,7 @@ module _ (g : Gateway) (b : List ℕ) (h : Good g) where
   unfolding aps_placed reaction reply_of
   nameless-placed (Err why) e = refl
   nameless-placed (Ok (who.Plain start len)) e = refl
-  nameless-placed (Ok (who.Claims c)) e = absurd (none-some c.sender (sym e))
+  nameless-placed (Ok (who.Claims c)) e = cc
 
   -- not too many rows are in use after an opening
   stays-placed : (w : Result Who Refusal) → (aps_placed g.pairs b w).pairs.used ≤ 16

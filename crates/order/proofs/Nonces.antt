@@ -2,10 +2,8 @@
 -- the outgoing counter is not reset: no counter is used twice, so no two frames are secured under one nonce. For NWK that is said of all keys
 -- together, for APS of each pair row. Two rows may hold one key, and then a nonce may come twice under it: see the crate `needed_aps`,
 -- proofs/Reuse.antt. Assumes nothing.
-use Rattle.std.specs.Prelude.{Ok}
-use Rattle.std.specs.Prelude.{◌≡◌, refl, Bool, List, ◌++◌, ℕ, ◌≤◌, ◌<◌, ◌^◌, length, take, get_or}
-use Rattle.std.proofs.Common.{sym, ap, ◌∙◌, arith, length-take-le}
-use Rattle.std.specs.Prelude.{Option}
+use Rattle.std.specs.Prelude.{Ok, ◌≡◌, refl, Bool, List, ◌++◌, ℕ, ◌≤◌, ◌<◌, ◌^◌, length, take, get_or, Option}
+use Rattle.std.proofs.Common.{sym, ap, ◌∙◌, length-take-le}
 use Rattle.std.proofs.lemmas.List.{get_or_at}
 use Rattle.answer.specs.declared.Accepted.TheVariants.{Done}
 use Rattle.cells.specs.Lists.{Distinct}
@@ -19,9 +17,8 @@ use Rattle.frame_header.specs.Aps.{aps_length}
 use Rattle.frame_header.specs.Nwk.{nwk_length}
 use Rattle.nib.specs.declared.outgoing.Outgoing.{Outgoing}
 use Rattle.nib.specs.declared.state.Nwk.{Nwk}
-use Rattle.securing.specs.SecureNwk.{nwk_added, nwk_headers, nwk_on_air, secure_nwk}
+use Rattle.securing.specs.SecureNwk.{secure_nwk}
 use Rattle.securing.specs.SecureNwk as nwk-secured
-use Rattle.aps.specs.SecureAps.{identifier_for, aps_added, aps_on_air}
 use Rattle.aps.specs.SecureAps as aps-secured
 use Rattle.order.specs.NwkSteps as nwk
 use Rattle.order.specs.ApsSteps as aps
@@ -65,7 +62,7 @@ module _ (s : Nwk) (o : Outgoing) (plain out : List ℕ) where
   nwk-sealed-under start len = at (nwk-sent.securing s o plain out)
     where
       at : {x : nwk-secured.Secured} → nwk-sent.Sent s o plain out x → x.answer ≡ Ok (Done start len) → NwkSealed s o plain out x.out
-      at (nwk-sent.not-sent why) e = let z : ◌≡◌ {A = ℕ} 0 1 = cc in absurd (omega arith)
+      at (nwk-sent.not-sent why) e = cc
       at (nwk-sent.sent whole usable) e =
           (refl, ap (λ (control : ℕ). nonce_of s.own o.next (filled control 5)) (control-at Network o.next s.own s.active plain (nwk_length plain) whole))
 
@@ -78,7 +75,7 @@ module _ (g : Gateway) (device : ℕ) (extended : Bool) (plain out : List ℕ) w
   aps-sealed-under start len = at (aps-sent.securing g.aps g.pairs device extended plain out)
     where
       at : {x : aps-secured.Secured} → aps-sent.Sent g.aps g.pairs device extended plain out x → x.answer ≡ Ok (Done start len) → ApsSealed g device extended plain out x.out
-      at (aps-sent.not-sent why) e = let z : ◌≡◌ {A = ℕ} 0 1 = cc in absurd (omega arith)
+      at (aps-sent.not-sent why) e = cc
       at (aps-sent.sent row identifier found chosen whole usable) e = (
         row,
         identifier,

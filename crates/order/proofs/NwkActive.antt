@@ -1,8 +1,7 @@
 -- The active number at the end of a list. A frame opens only under the number of one of the keys. So with at most two keys, the active
 -- number a one of theirs, it ends as the next number if a frame opened under that, and else as it was: once it has moved, a, the next
 -- and the one after that would be three numbers. Which frames open does not depend on the order. Assumes nothing.
-use Rattle.std.specs.Prelude.{Err, Ok, is_some, Result}
-use Rattle.std.specs.Prelude.{◌≡◌, ◌⊎◌, Bool, not, ◌||◌, length, take, eqb, ltb}
+use Rattle.std.specs.Prelude.{Err, Ok, is_some, option_map, Result, ◌≡◌, ◌⊎◌, Bool, not, ◌||◌, length, take, eqb, ltb, Option, None, Some}
 use Rattle.std.proofs.Math.Path.{refl}
 use Rattle.std.proofs.Common.{sym, ap, ◌∙◌, inl, inr, arith, length-take, eqb-true}
 use Rattle.std.proofs.Math.Bool.{true, false, cond}
@@ -10,31 +9,23 @@ use mathlib.Core.List.Memᴰ
 use mathlib.Core.List.Memᴰ.{head as here}
 use mathlib.Core.List.Memᴰ.{tail as there}
 use mathlib.Core.List.{List, [], ◌∷◌, map, Memᴰ as Mem}
-use Rattle.std.specs.Prelude.{Option, None, Some}
-use Rattle.std.proofs.lemmas.Option.{none-some, same_Some}
 use Prim.Native.Nat.{ℕ, ◌≤◌}
 use Rattle.std.proofs.lemmas.List.{length-map}
 use Rattle.answer.specs.Numbers.{Answer}
 use Rattle.answer.specs.declared.Accepted.TheVariants.{Done, Plain}
 use Rattle.answer.specs.declared.Refusal.TheVariants.{NoNetworkKey}
 use Rattle.cells.specs.Lists.{any}
-use Rattle.cells.specs.ListLaws.{clash, either}
+use Rattle.cells.specs.ListLaws.{either}
 use Rattle.cells.specs.Machine.{run, final}
 use Rattle.cells.specs.Rows.{find}
 use Rattle.auxiliary_header.specs.declared.auxiliary.Auxiliary.{Auxiliary}
-use Rattle.auxiliary_header.specs.declared.auxiliary.AuxiliaryRead.{AuxiliaryRead}
-use Rattle.auxiliary_header.specs.declared.auxiliary.AuxiliaryRead.TheVariants as auxiliary
-use Rattle.auxiliary_header.specs.declared.auxiliary.Sender.{Sender}
-use Rattle.auxiliary_header.specs.declared.auxiliary.Sender.TheVariants.{Address, Absent}
 use Rattle.auxiliary_header.specs.Auxiliary.{auxiliary_at}
-use Rattle.frame_header.specs.declared.network.NwkRead.{NwkRead}
-use Rattle.frame_header.specs.declared.network.NwkRead.TheVariants as nwk
+use Rattle.frame_header.specs.declared.network.NwkHeader.{NwkHeader}
 use Rattle.frame_header.specs.Nwk.{nwk_of}
 use Rattle.nib.specs.declared.keys.NetworkKey.{NetworkKey}
 use Rattle.nib.specs.declared.keys.NetworkKeys.{NetworkKeys}
 use Rattle.nib.specs.Active.{next, turn}
-use Rattle.nib.specs.Keys.{key_rows, answered, key_found}
-use Rattle.nib.specs.Counters.{pair}
+use Rattle.nib.specs.Keys.{key_row, key_rows, key_found}
 use Rattle.nib.specs.Pairs.{Pair}
 use Rattle.answer.specs.declared.Refusal.{Refusal}
 use Rattle.claims.specs.declared.Who.{Who}
@@ -62,7 +53,7 @@ no_third l two a p q r = at (two-of-three l two a (next a) (next (next a)) p q r
 -- a number that is found is one of the keys'
 found_number : (rs : List NetworkKey) (n : ℕ) (key : List ℕ) → find key_rows rs n ≡ Some key → Mem n (map (λ (r : NetworkKey). r.number) rs)
 unfolding find
-found_number [] n key e = absurd (none-some key e)
+found_number [] n key e = cc
 found_number (r ∷ rs) n key e = at (eqb r.number n) refl e (found_number rs n key)
   where
     at : (t : Bool) → eqb r.number n ≡ t → cond t (Some r.key) (find key_rows rs n) ≡ Some key
@@ -74,8 +65,8 @@ key-number : (keys : NetworkKeys) (n : ℕ) → is_some (key_found keys n) ≡ t
 unfolding key_found
 key-number keys n e = at (find key_rows (take keys.used keys.rows) n) refl e
   where
-    at : (o : Option (List ℕ)) → find key_rows (take keys.used keys.rows) n ≡ o → (answered n o).found ≡ true → Mem n (numbers keys)
-    at None q f = clash false f refl
+    at : (o : Option (List ℕ)) → find key_rows (take keys.used keys.rows) n ≡ o → is_some (option_map (key_row n) o) ≡ true → Mem n (numbers keys)
+    at None q f = cc
     at (Some key) q f = found_number (take keys.used keys.rows) n key q
 
 module _ (keys : NetworkKeys) (b : List ℕ) (k : Pair) where
@@ -83,35 +74,35 @@ module _ (keys : NetworkKeys) (b : List ℕ) (k : Pair) where
   Named w = pair_of w ≡ Some k → Mem k.number (numbers keys)
 
   none_named : None ≡ Some k → Mem k.number (numbers keys)
-  none_named e = absurd (none-some k e)
+  none_named e = cc
 
   pub named-key : Named (nwk_who keys b)
   unfolding nwk_who
   named-key = either Named (ltb 1024 (length b)) none_named (either Named (ltb (length b) 4) none_named (by-header (nwk_of b)))
     where
-      by-sender : (a : Auxiliary) (at : ℕ) (s : Sender) → Named (nwk_named keys a at s)
-      by-sender a at Absent = none_named
-      by-sender a at (Address s) = either Named (not (is_network a.key)) none_named (by_key (is_some (key_found keys (number_of a.key))) refl)
+      by-sender : (a : Auxiliary) (at : ℕ) (s : Option ℕ) → Named (nwk_named keys a at s)
+      by-sender a at None = none_named
+      by-sender a at (Some s) = either Named (not (is_network a.key)) none_named (by_key (is_some (key_found keys (number_of a.key))) refl)
         where
-          by_key : (t : Bool) → is_some (key_found keys (number_of a.key)) ≡ t → Named (cond (not t) (refuse NoNetworkKey) (claimed a s at))
+          by_key : (t : Bool) → is_some (key_found keys (number_of a.key)) ≡ t → Named (cond (not t) (refuse NoNetworkKey) (Ok (claimed a s at)))
           by_key false q = none_named
-          by_key true q = λ e. Memᴰ.cast (ap (λ (x : Pair). x.number) (sym (same_Some (pair (number_of a.key) s) k e))) (key-number keys (number_of a.key) q)
+          by_key true q = λ e. Memᴰ.cast (cc) (key-number keys (number_of a.key) q)
 
-      by-auxiliary : (at : ℕ) (r : AuxiliaryRead) → Named (nwk_auxiliary keys at r)
-      by-auxiliary at auxiliary.Cut = none_named
-      by-auxiliary at (auxiliary.Whole a) = either Named (eqb a.counter spent) none_named (by-sender a at a.sender)
+      by-auxiliary : (at : ℕ) (r : Result Auxiliary Refusal) → Named (nwk_auxiliary keys at r)
+      by-auxiliary at (Err why) = none_named
+      by-auxiliary at (Ok a) = either Named (eqb a.counter spent) none_named (by-sender a at a.sender)
 
-      by-header : (r : NwkRead) → Named (nwk_header keys b r)
-      by-header nwk.Cut = none_named
-      by-header (nwk.Whole h) = either Named (not h.secured) none_named (by-auxiliary h.len (auxiliary_at b h.len))
+      by-header : (r : Result NwkHeader Refusal) → Named (nwk_header keys b r)
+      by-header (Err why) = none_named
+      by-header (Ok h) = either Named (not h.secured) none_named (by-auxiliary h.len (auxiliary_at b h.len))
 
 -- ---- one frame
 
 pub opens-named : (n : ℕ) (o : Option Pair) (a : Answer) → opens_under n o a ≡ true → (k : Pair) × (o ≡ Some k) × (k.number ≡ n)
-opens-named n None a e = clash false e refl
+opens-named n None a e = cc
 opens-named n (Some k) (Ok (Done start len)) e = (k, refl, eqb-true k.number n e)
-opens-named n (Some k) (Ok (Plain start len)) e = clash false e refl
-opens-named n (Some k) (Err why) e = clash false e refl
+opens-named n (Some k) (Ok (Plain start len)) e = cc
+opens-named n (Some k) (Err why) e = cc
 
 turned-once : (a : ℕ) (k : Pair) (x : Answer) → active_after a k.number x ≡ cond (opens_under (next a) (Some k) x) (next a) a
 unfolding turn

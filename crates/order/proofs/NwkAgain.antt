@@ -1,10 +1,8 @@
 -- No NWK frame opens twice: the proof. Assumes nothing.
-use Rattle.std.specs.Prelude.{◌≡◌, refl, Bool, true, false, cond, not, List, ℕ, ◌+◌, ◌≤◌, ltb, length, Err, Ok, Result}
+use Rattle.std.specs.Prelude.{◌≡◌, refl, Bool, true, false, cond, not, List, ℕ, ◌+◌, ◌≤◌, ltb, length, Err, Ok, Result, Option, Some}
 use Rattle.std.proofs.Common.{ap, ◌∙◌, le_trans, arith, eq-eqb, ne_eqb, lt-ltb}
-use Rattle.std.specs.Prelude.{Option, Some}
-use Rattle.std.proofs.lemmas.Option.{none-some}
 use Rattle.answer.specs.declared.Refusal.TheVariants.{Unsupported, CounterRepeated, CounterBehind}
-use Rattle.cells.specs.ListLaws.{clash, either, which}
+use Rattle.cells.specs.ListLaws.{either, which}
 use Rattle.cells.specs.Rows.{Reaction, settle}
 use Rattle.cells.specs.Machine.{final}
 use Rattle.nib.specs.declared.keys.NetworkKeys.{NetworkKeys}
@@ -41,8 +39,8 @@ rising keys c held b =
 module _ (keys : NetworkKeys) (b : List ℕ) where
   reacts : (w : Result Who Refusal) (k : Pair) → pair_of w ≡ Some k → (held : Option Cell) → Rising (λ n. n.counter) opens (counter_of w) held (reaction keys b w held)
   unfolding reaction
-  reacts (Err why) k e held = absurd (none-some k e)
-  reacts (Ok (who.Plain start len)) k e held = absurd (none-some k e)
+  reacts (Err why) k e held = cc
+  reacts (Ok (who.Plain start len)) k e held = cc
   reacts (Ok (who.Claims c)) k e held = rising keys c held b
 
 -- a state in which a frame opens is one that is taken
@@ -53,7 +51,7 @@ opens-good g b = at (nwk_unfit g.nwk g.rows g.used) refl
     at : (t : Bool) → nwk_unfit g.nwk g.rows g.used ≡ t
         → (let o = cond t (unchanged g.nwk g.rows g.used (refused Unsupported b)) (nwk_placed g.nwk g.rows g.used b (nwk_who g.nwk.keys b)) in
         is_done o.answer ≡ true) → (Good g.nwk.keys (length g.rows) g) × (g.nwk.keys.used ≤ 2)
-    at true e f = clash false f refl
+    at true e f = cc
     at false e f = taken-good g e
 
 -- a frame that is not above what is held is refused, 33 or 34

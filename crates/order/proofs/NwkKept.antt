@@ -1,10 +1,8 @@
 -- Opening and securing NWK change nothing unless the answer is done. Assumes nothing.
-use Rattle.std.specs.Prelude.{Err, Ok, Result}
-use Rattle.std.specs.Prelude.{◌≡◌, Bool, cond, not, List, ℕ, ◌+◌, ◌≤◌, eqb, ltb, length, take}
+use Rattle.std.specs.Prelude.{Err, Ok, Result, ◌≡◌, Bool, cond, not, List, ℕ, ◌+◌, ◌≤◌, eqb, ltb, length, take, Option}
 use Rattle.std.proofs.Math.Path.{refl, ap}
 use Rattle.std.proofs.Common.{◌∙◌, arith}
 use Rattle.std.proofs.Math.Bool.{true, false}
-use Rattle.std.specs.Prelude.{Option}
 use Rattle.std.proofs.Math.Seq.{length-take-le}
 use borrow.Author.Tests.{ltb-false}
 use Rattle.answer.specs.Numbers.{Answer}

@@ -1,8 +1,6 @@
 -- The outgoing counter of NWK through any calls: it never falls, and rises above what was used. Assumes nothing.
-use Rattle.std.specs.Prelude.{◌≡◌, true, List, ℕ, ◌≤◌, ◌<◌, ◌^◌}
+use Rattle.std.specs.Prelude.{◌≡◌, true, List, ℕ, ◌≤◌, ◌<◌, ◌^◌, Some}
 use Rattle.std.proofs.Common.{sym, ap, ◌∙◌, arith}
-use Rattle.std.specs.Prelude.{Some}
-use Rattle.std.proofs.lemmas.Option.{none-some}
 use Rattle.std.proofs.lemmas.Bool.{eqb-false}
 use Rattle.laws.specs.Numbers.{field}
 use Rattle.cells.specs.ListLaws.{not-true, which}
@@ -54,10 +52,10 @@ nonces-once d steps small =
     used-once nonce_used after_step (λ n. field n 8 4) next (λ d. next d < 2 ^ 32) (λ d f. (counter-moves d f).fits) (λ d f g. (counter-moves d f).up) lifts d steps small
   where
     lifts : (d : Device) (f : Step) (x : List ℕ) → next d < 2 ^ 32 → nonce_used d f ≡ Some x → (next d ≤ field x 8 4) × (field x 8 4 < next (after_step d f))
-    lifts d (opening frame) x h e = absurd (none-some x e)
+    lifts d (opening frame) x h e = cc
     lifts d (securing plain out) x h e =
         let m = secured-moves _ d.gateway.nwk d.outgoing plain out (nwk.securing d.gateway.nwk d.outgoing plain out) in
         let u = m.uses x e in
         let n : field x 8 4 ≡ next d = ap (λ (y : List ℕ). field y 8 4) (sym u.0) ∙ counter-in d.gateway.nwk.own (next d) 0x2D h in
         (omega arith, omega (arith, u.1))
-    lifts d taking x h e = absurd (none-some x e)
+    lifts d taking x h e = cc

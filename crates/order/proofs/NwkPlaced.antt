@@ -1,9 +1,8 @@
 -- An opening of an NWK frame, for the machine of NwkRun.antt: what it does to the row of the pair that the frame names. Assumes nothing.
-use Rattle.std.specs.Prelude.{◌≡◌, false, not, List, ℕ, ◌≤◌, length, eqb, ltb, Err, Ok, Result}
-use Rattle.std.proofs.Math.Path.{refl, sym}
+use Rattle.std.specs.Prelude.{◌≡◌, false, not, List, ℕ, ◌≤◌, length, eqb, ltb, Err, Ok, Result, None, Some}
+use Rattle.std.proofs.Math.Path.{refl}
 use Rattle.std.proofs.Common.{arith, length-append, length-drop}
-use Rattle.std.specs.Prelude.{None, Some}
-use Rattle.std.proofs.lemmas.Option.{none-some, same_Some}
+use Rattle.std.proofs.lemmas.Option.{same_Some}
 use Rattle.std.proofs.Math.ListN.{length-take}
 use borrow.Author.Tests.{eq-eqb, eqb-true, le-ltb, ltb-false}
 use Rattle.cells.specs.ListLaws.{neither, nor, not-not}
@@ -46,8 +45,8 @@ module _ (keys : NetworkKeys) (lent : ℕ) (two : keys.used ≤ 2) where
       → settled (nwk_placed g.nwk g.rows g.used b w)
       ≡ settle counter_rows (capacity lent) (rows_in_use g) k (reaction keys b w (find counter_rows (rows_in_use g) k))
   unfolding nwk_placed reaction
-  named-placed g b k h (Err why) e = absurd (none-some k e)
-  named-placed g b k h (Ok (who.Plain start len)) e = absurd (none-some k e)
+  named-placed g b k h (Err why) e = cc
+  named-placed g b k h (Ok (who.Plain start len)) e = cc
   named-placed g b k h (Ok (who.Claims c)) e =
       let t = settle counter_rows (capacity lent) (rows_in_use g) (claimed_pair c) (nwk_judged keys c (find counter_rows (rows_in_use g) (claimed_pair c)) b) in
       rw (← same_Some (claimed_pair c) k e, h.same_keys, h.same-lent) (λ i. record { out = t.out; rows = over-used t.rows g.rows i })
@@ -58,7 +57,7 @@ module _ (keys : NetworkKeys) (lent : ℕ) (two : keys.used ≤ 2) where
   unfolding nwk_placed reaction reply_of
   nameless-placed g b (Err why) e = refl
   nameless-placed g b (Ok (who.Plain start len)) e = refl
-  nameless-placed g b (Ok (who.Claims c)) e = absurd (none-some _ (sym e))
+  nameless-placed g b (Ok (who.Claims c)) e = cc
 
   -- as many rows are lent after an opening, and not too many are in use
   stays-placed : (g : Gateway) (b : List ℕ) → Good keys lent g → (w : Result Who Refusal)

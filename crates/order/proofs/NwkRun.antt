@@ -1,7 +1,6 @@
 -- Openings of NWK frames as a machine over counter rows (cells, specs/Machine.antt). Assumes nothing.
-use Rattle.std.specs.Prelude.{List, ℕ, ◌≤◌}
+use Rattle.std.specs.Prelude.{List, ℕ, ◌≤◌, None}
 use Rattle.std.proofs.Common.{ap, ◌∙◌}
-use Rattle.std.specs.Prelude.{None}
 use Rattle.cells.specs.Rows.{reply_of}
 use Rattle.cells.specs.Machine.{Machine}
 use Rattle.nib.specs.declared.counters.CounterRow.{CounterRow}

@@ -1,12 +1,10 @@
 -- REFUSALS CHANGE NOTHING. Where the answer is a refusal, all that a call was lent is as it was, and start and length are 0.
 -- On opening the same holds where the frame is plain, but for start and length. Assumes nothing.
-use Rattle.std.specs.Prelude.{Err, Ok}
-use Rattle.std.specs.Prelude.{◌≡◌, Bool, List, ℕ, length}
-use Rattle.std.proofs.Common.{ap, arith}
-use Rattle.answer.specs.Numbers.{Answer}
+use Rattle.std.specs.Prelude.{Err, Ok, ◌≡◌, Bool, List, ℕ, length}
+use Rattle.std.proofs.Common.{ap}
+use Rattle.answer.specs.Numbers.{Answer, told}
 use Rattle.answer.specs.declared.Accepted.TheVariants.{Plain}
 use Rattle.answer.specs.declared.Refusal.{Refusal}
-use Rattle.answer.specs.Numbers.{told}
 use Rattle.nib.specs.declared.counters.CounterRow.{CounterRow}
 use Rattle.nib.specs.declared.outgoing.Outgoing.{Outgoing}
 use Rattle.aib.specs.declared.pairs.Pairs.{Pairs}
@@ -23,7 +21,7 @@ use Rattle.order.specs.Refusals.{TellsNothing}
 
 -- a plain frame is not done
 plain-not-done : {a : Answer} {start len : ℕ} → a ≡ Ok (Plain start len) → NotDone a
-plain-not-done e start len f = let z : ◌≡◌ {A = ℕ} 0 1 = cc in omega arith
+plain-not-done e start len f = cc
 
 -- ---- NWK
 

@@ -1,6 +1,5 @@
 -- A list of APS frames that a gateway opens one after another, and what 'the same outcome' means for two such lists.
-use Rattle.std.specs.Prelude.{◌≡◌, List, ℕ}
-use Rattle.std.specs.Prelude.{Option}
+use Rattle.std.specs.Prelude.{◌≡◌, List, ℕ, Option}
 use Rattle.cells.specs.Rows.{find, new_keys}
 use Rattle.cells.specs.Desk.{Desk, open_all}
 use Rattle.aib.specs.declared.pairs.Pairs.{Pairs}

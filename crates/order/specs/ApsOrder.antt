@@ -1,7 +1,6 @@
 -- Opening APS frames is a machine in the sense of `cells`: a frame acts on the row of its own sender alone. So the law of `cells` says
 -- what order leaves as it is in a list of APS openings; a state that is not taken answers every frame 7. Assumes nothing.
-use Rattle.std.specs.Prelude.{◌≡◌, List, ℕ, ◌≤◌, Err, Ok, Result}
-use Rattle.std.specs.Prelude.{Option}
+use Rattle.std.specs.Prelude.{◌≡◌, List, ℕ, ◌≤◌, Err, Ok, Result, Option}
 use Rattle.cells.specs.Rows.{Reaction, leave, Settled}
 use Rattle.aib.specs.declared.pairs.PairRow.{PairRow}
 use Rattle.aib.specs.Counters.{in_use}

@@ -1,16 +1,14 @@
 -- What the calls of APS do to the rows: an opening leaves every outgoing counter, and a securing every incoming one. Assumes nothing.
-use Rattle.std.specs.Prelude.{◌≡◌, Bool, not, ◌&&◌, eqb, leb, ltb, drop, Err, Ok, Result}
+use Rattle.std.specs.Prelude.{◌≡◌, Bool, not, ◌&&◌, eqb, leb, ltb, drop, Err, Ok, Result, Option, Some}
 use Rattle.std.proofs.Math.Path.{refl}
 use Rattle.std.proofs.Common.{ap, eqb-true}
 use Rattle.std.proofs.Math.Bool.{true, false, cond}
 use mathlib.Core.List.{List, [], ◌∷◌}
-use Rattle.std.specs.Prelude.{Option, Some}
-use Rattle.std.proofs.lemmas.Option.{none-some, same_Some}
 use Prim.Native.Nat.{ℕ, suc, ◌+◌}
 use Rattle.std.proofs.Math.ListN.{length}
 use Rattle.std.proofs.Math.Seq.{take-append_seam}
 use Rattle.cells.specs.First.{first, at_first}
-use Rattle.cells.specs.ListLaws.{clash, either}
+use Rattle.cells.specs.ListLaws.{either}
 use Rattle.cells.specs.Rows.{Reaction, find, put, room, settle}
 use Rattle.aib.specs.declared.pairs.PairRow.{PairRow}
 use Rattle.aib.specs.Counters.{in_use, raised, heard}
@@ -92,7 +90,7 @@ opening-outgoing to {rs} (hears device counter) = hears-outgoing to device count
 
 both : (x y : Bool) → (x && y) ≡ true → x ≡ true
 both true y e = refl
-both false y e = clash false e refl
+both false y e = cc
 
 module _ (device : ℕ) where
   -- no other device's outgoing counter changes,
@@ -112,12 +110,12 @@ module _ (device : ℕ) where
   -- that of the row that was used rises by 1,
   pub raising-own : (rs : List PairRow) (row : PairRow) → first (may_use device) rs ≡ Some row → first (may_use device) (at_first (may_use device) raised rs) ≡ Some (raised row)
   unfolding first at_first
-  raising-own [] row e = absurd (none-some row e)
+  raising-own [] row e = cc
   raising-own (r ∷ rs) row e = at (may_use device r) refl (λ f. raising-own rs row f) e
     where
       at : (t : Bool) → may_use device r ≡ t → (first (may_use device) rs ≡ Some row → first (may_use device) (at_first (may_use device) raised rs) ≡ Some (raised row))
           → cond t (Some r) (first (may_use device) rs) ≡ Some row → first (may_use device) (cond t (raised r ∷ rs) (r ∷ at_first (may_use device) raised rs)) ≡ Some (raised row)
-      at true t ih f = rw t (ap (λ (x : PairRow). Some (raised x)) (same_Some r row f))
+      at true t ih f = rw t cc
       at false t ih f = rw t (ih f)
 
   -- and every device keeps its incoming counter

@@ -1,8 +1,6 @@
 -- What a securing of APS comes to: a refusal, or a finished frame. Assumes nothing.
-use Rattle.std.specs.Prelude.{Ok}
-use Rattle.std.specs.Prelude.{◌≡◌, refl, Bool, false, ◌||◌, ◌&&◌, List, ℕ, ◌+◌, ◌≤◌, eqb, get_or}
+use Rattle.std.specs.Prelude.{Ok, ◌≡◌, refl, Bool, false, ◌||◌, ◌&&◌, List, ℕ, ◌+◌, ◌≤◌, eqb, get_or, Option, None, Some}
 use Rattle.std.proofs.Math.Bool.{not}
-use Rattle.std.specs.Prelude.{Option, None, Some}
 use Rattle.std.proofs.Math.Dec.{ltb}
 use Rattle.std.proofs.Math.ListN.{length}
 use Rattle.std.proofs.Common.{ltb-false}
@@ -11,8 +9,7 @@ use Rattle.cells.specs.First.{first, at_first}
 use Rattle.cells.specs.ListLaws.{either, nor, which}
 use Rattle.aib.specs.declared.pairs.PairRow.{PairRow}
 use Rattle.aib.specs.declared.pairs.Pairs.{Pairs}
-use Rattle.aib.specs.declared.counters.Advanced.{Advanced}
-use Rattle.aib.specs.Counters.{in_use, holding, raised, not_advanced, advanced_by, advanced}
+use Rattle.aib.specs.Counters.{Advanced, in_use, holding, raised, not_advanced, advanced_by, advanced}
 use Rattle.aib.specs.Pairs.{may_use}
 use Rattle.control.specs.declared.KeyIdentifier.{KeyIdentifier}
 use Rattle.frame_header.specs.Aps.{aps_taken, aps_length, is_command, is_secured}
@@ -55,7 +52,7 @@ module _ (pairs : Pairs) (device : ℕ) where
   pub data Advances : Advanced → Type 0 where
     not-advanced : (why : Refusal) → Advances (not_advanced why pairs)
     advances : (row : PairRow) → first (may_use device) (in_use pairs) ≡ Some row → eqb row.outgoing spent ≡ false
-        → Advances (record { outcome = (Ok tt); counter = row.outgoing; pairs = holding (at_first (may_use device) raised (in_use pairs)) pairs })
+        → Advances (record { outcome = Ok tt; counter = row.outgoing; pairs = holding (at_first (may_use device) raised (in_use pairs)) pairs })
 
   pub advancing : Advances (advanced pairs device)
   unfolding advanced

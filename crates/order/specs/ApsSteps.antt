@@ -1,7 +1,6 @@
 -- A device that opens APS frames, secures APS frames and advances outgoing counters, in any mix; and which counters and nonces it uses with the row
 -- of one device.
-use Rattle.std.specs.Prelude.{Bool, cond, List, ℕ, eqb, get_or}
-use Rattle.std.specs.Prelude.{Option, None, Some}
+use Rattle.std.specs.Prelude.{Bool, cond, List, ℕ, eqb, get_or, Option, None, Some}
 use Rattle.cells.specs.First.{first}
 use Rattle.control.specs.Control.{filled, sent}
 use Rattle.control.specs.declared.KeyIdentifier.{KeyIdentifier}

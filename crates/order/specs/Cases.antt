@@ -1,22 +1,18 @@
 -- P1 TO P10: document 01's cases that are marked P, as one list, on the definitions that the promises use. That there are frames and states as the
 -- records here ask for is shown in the crates `needed` and `needed_aps`, proofs/Inhabited.antt. Assumes nothing.
-use Rattle.std.specs.Prelude.{Ok, is_some, Err, Result}
-use Rattle.std.specs.Prelude.{◌≡◌, refl, Bool, true, false, cond, List, [], ◌∷◌, ℕ, ◌≤◌, ◌<◌, length, take}
-use Rattle.std.proofs.Common.{ap, ◌∙◌, arith, eq-eqb, le-ltb}
-use Rattle.std.specs.Prelude.{Some}
+use Rattle.std.specs.Prelude.{Ok, is_some, Err, Result, ◌≡◌, refl, Bool, true, false, cond, List, [], ◌∷◌, ℕ, ◌≤◌, ◌<◌, length, take, Some}
+use Rattle.std.proofs.Common.{ap, ◌∙◌, eq-eqb, le-ltb}
 use Rattle.std.proofs.lemmas.Bool.{lt-leb}
-use Rattle.answer.specs.Numbers.{Answer}
+use Rattle.answer.specs.Numbers.{Answer, outcome_number, told}
 use Rattle.answer.specs.declared.Accepted.TheVariants.{Done}
 use Rattle.answer.specs.declared.Refusal.TheVariants.{Unsupported}
-use Rattle.answer.specs.Numbers.{outcome_number, told}
 use Rattle.cells.specs.Rows.{find, settle}
 use Rattle.control.specs.declared.KeyIdentifier.TheVariants.{Link, Network, Transport, Load}
 use Rattle.control.specs.Control.{filled, sent}
 use Rattle.auxiliary_header.specs.Nonce.{nonce_of}
 use Rattle.auxiliary_header.specs.Cases as frame
 use Rattle.frame_header.specs.declared.network.NwkHeader.{NwkHeader}
-use Rattle.frame_header.specs.declared.network.NwkRead.TheVariants as nwk
-use Rattle.frame_header.specs.Nwk.{nwk_of}
+use Rattle.frame_header.specs.Nwk.{nwk_kind_number, nwk_of}
 use Rattle.mmo.specs.Hash.{padding}
 use Rattle.nib.specs.declared.counters.CounterRow.{CounterRow}
 use Rattle.nib.specs.Active.{turn}
@@ -76,8 +72,8 @@ pub record NwkSends (s : Nwk) (plain : List ℕ) : Type 0 where
   pub level : s.level ≡ 5
   pub keys : s.keys.used ≤ 2
   pub size : length plain ≤ 1006
-  pub framed : nwk_of plain ≡ nwk.Whole header
-  pub kind : header.kind < 2
+  pub framed : nwk_of plain ≡ Ok header
+  pub kind : nwk_kind_number header.kind < 2
   pub secured : header.secured ≡ true
   pub key : is_some (key_found s.keys s.active) ≡ true
 
@@ -111,15 +107,15 @@ unfolding open_nwk nwk_placed
 turns s rows used b n h = at (nwk_unfit s rows used) h.opens
   where
     placed : (w : Result Who Refusal) → w ≡ Ok (who.Claims h.claim) → (nwk_placed s rows used b w).answer ≡ Ok (Done h.start h.len) → (nwk_placed s rows used b w).active ≡ turn s.active n
-    placed (Err why) e f = let z : ◌≡◌ {A = ℕ} 0 1 = cc in absurd (omega arith)
-    placed (Ok (who.Plain start len)) e f = let z : ◌≡◌ {A = ℕ} 0 1 = cc in absurd (omega arith)
+    placed (Err why) e f = cc
+    placed (Ok (who.Plain start len)) e f = cc
     placed (Ok (who.Claims c)) e f =
         let same : number_of c.key ≡ n = cc in
         ap (active_after s.active (number_of c.key)) f ∙ ap (turn s.active) same
 
     at : (t : Bool) → (cond t (unchanged s rows used (refused Unsupported b)) (nwk_placed s rows used b (nwk_who s.keys b))).answer ≡ Ok (Done h.start h.len)
         → (cond t (unchanged s rows used (refused Unsupported b)) (nwk_placed s rows used b (nwk_who s.keys b))).active ≡ turn s.active n
-    at true f = let z : ◌≡◌ {A = ℕ} 0 1 = cc in absurd (omega arith)
+    at true f = cc
     at false f = placed (nwk_who s.keys b) h.claims f
 
 pub cases : Cases
@@ -138,6 +134,6 @@ cases = record {
   p10 = (
     nib.p10,
     λ s plain out h.
-        rw (eq-eqb s.level 5 h.level, le-ltb 2 s.keys.used h.keys, le-ltb 1006 (length plain) h.size, h.framed, lt-leb 2 h.header.kind h.kind, h.secured, h.key),
+        rw (eq-eqb s.level 5 h.level, le-ltb 2 s.keys.used h.keys, le-ltb 1006 (length plain) h.size, h.framed, lt-leb 2 (nwk_kind_number h.header.kind) h.kind, h.secured, h.key),
   );
 }

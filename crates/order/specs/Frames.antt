@@ -1,12 +1,8 @@
 -- What an opening leaves in a frame's buffer, and what is told of the frame.
-use Rattle.std.specs.Prelude.{Err, Ok}
-use Rattle.std.specs.Prelude.{List, ℕ}
-use Rattle.std.specs.Prelude.{Option, None, Some}
-use Rattle.answer.specs.Numbers.{Answer}
+use Rattle.std.specs.Prelude.{Err, Ok, List, ℕ, Option, None, Some}
+use Rattle.answer.specs.Numbers.{Answer, Outcome, told}
 use Rattle.answer.specs.declared.Accepted.TheVariants as answer
-use Rattle.answer.specs.Numbers.{Outcome}
 use Rattle.answer.specs.declared.Told.{Told}
-use Rattle.answer.specs.Numbers.{told}
 use Rattle.protection.specs.Heard.{Heard}
 
 abbrev pub leaves : List ℕ → Heard → List ℕ

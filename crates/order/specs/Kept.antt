@@ -1,7 +1,6 @@
 -- What an opening leaves unless its answer is done, for any table: the common part of NwkKept.antt and ApsKept.antt. Assumes nothing.
-use Rattle.std.specs.Prelude.{Err, Ok}
-use Rattle.std.specs.Prelude.{◌≡◌, refl, Bool, true, false, cond, List, ◌++◌, ℕ, ◌≤◌, length, take, drop}
-use Rattle.std.proofs.Common.{arith, take-append-drop, length-take-le}
+use Rattle.std.specs.Prelude.{Err, Ok, ◌≡◌, refl, Bool, true, false, cond, List, ◌++◌, ℕ, ◌≤◌, length, take, drop}
+use Rattle.std.proofs.Common.{take-append-drop, length-take-le}
 use Rattle.answer.specs.Numbers.{Answer}
 use Rattle.answer.specs.declared.Accepted.TheVariants.{Done}
 use Rattle.answer.specs.declared.Refusal.{Refusal}
@@ -12,7 +11,7 @@ abbrev pub NotDone : Answer → Type 0
 NotDone a = (start len : ℕ) → a ≡ Ok (Done start len) → ⊥
 
 pub refused-not-done : {a : Answer} {why : Refusal} → a ≡ Err why → NotDone a
-refused-not-done e start len f = let z : ◌≡◌ {A = ℕ} 0 1 = cc in omega arith
+refused-not-done e start len f = cc
 
 -- ---- what a judgement may say
 

@@ -1,6 +1,5 @@
 -- Under which nonce a frame is sealed. Assumes nothing.
-use Rattle.std.specs.Prelude.{◌≡◌, Bool, List, ◌++◌, ℕ, ◌+◌, length, take, drop, get_or}
-use Rattle.std.specs.Prelude.{Some}
+use Rattle.std.specs.Prelude.{◌≡◌, Bool, List, ◌++◌, ℕ, ◌+◌, length, take, drop, get_or, Some}
 use Rattle.cells.specs.First.{first}
 use Rattle.control.specs.Control.{sent}
 use Rattle.control.specs.declared.KeyIdentifier.{KeyIdentifier}

@@ -1,6 +1,5 @@
 -- A list of NWK frames that a gateway opens one after another, and what 'the same outcome' means for two such lists.
-use Rattle.std.specs.Prelude.{◌≡◌, List, map, ℕ, take}
-use Rattle.std.specs.Prelude.{Option}
+use Rattle.std.specs.Prelude.{◌≡◌, List, map, ℕ, take, Option}
 use Rattle.cells.specs.Rows.{find, new_keys}
 use Rattle.cells.specs.Desk.{Desk, open_all}
 use Rattle.nib.specs.declared.counters.CounterRow.{CounterRow}

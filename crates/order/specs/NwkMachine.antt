@@ -1,6 +1,5 @@
 -- Opening NWK frames is a machine in the sense of `cells`: a frame acts on the row of its own pair alone. Assumes nothing.
-use Rattle.std.specs.Prelude.{◌≡◌, List, ℕ, ◌≤◌, length, take, Err, Ok, Result}
-use Rattle.std.specs.Prelude.{Option}
+use Rattle.std.specs.Prelude.{◌≡◌, List, ℕ, ◌≤◌, length, take, Err, Ok, Result, Option}
 use Rattle.cells.specs.Rows.{Reaction, leave, Settled}
 use Rattle.nib.specs.declared.counters.CounterRow.{CounterRow}
 use Rattle.nib.specs.declared.keys.NetworkKeys.{NetworkKeys}

@@ -1,6 +1,5 @@
 -- A device on the network that opens frames, secures frames and takes counters, in any mix; and which counters and nonces it uses.
-use Rattle.std.specs.Prelude.{List, ℕ}
-use Rattle.std.specs.Prelude.{Option, None}
+use Rattle.std.specs.Prelude.{List, ℕ, Option, None}
 use Rattle.auxiliary_header.specs.Nonce.{nonce_of}
 use Rattle.nib.specs.declared.outgoing.Outgoing.{Outgoing}
 use Rattle.nib.specs.Sending.{taken}

@@ -1,8 +1,7 @@
 -- What is told of a refusal. Assumes nothing.
 use Rattle.std.specs.Prelude.{◌≡◌}
-use Rattle.answer.specs.Numbers.{Answer}
+use Rattle.answer.specs.Numbers.{Answer, number, told}
 use Rattle.answer.specs.declared.Refusal.{Refusal}
-use Rattle.answer.specs.Numbers.{number, told}
 
 -- what is told of a refusal: its number, and start and length 0
 abbrev pub TellsNothing : Answer → Refusal → Type 0

@@ -1,9 +1,6 @@
 -- When a frame has opened, and how an old one is refused. Assumes nothing.
-use Rattle.std.specs.Prelude.{Err, Ok, Result}
-use Rattle.std.specs.Prelude.{◌≡◌, Bool, true, false, List, ℕ, ◌≤◌, ◌<◌}
+use Rattle.std.specs.Prelude.{Err, Ok, Result, ◌≡◌, Bool, true, false, List, ℕ, ◌≤◌, ◌<◌, Option, None, Some}
 use Rattle.std.proofs.Common.{ap, arith, ltb-false}
-use Rattle.std.specs.Prelude.{Option, None, Some}
-use Rattle.std.proofs.lemmas.Option.{none-some, same_Some}
 use Rattle.std.proofs.Math.Decide.{dec_le}
 use Rattle.answer.specs.Numbers.{Answer}
 use Rattle.answer.specs.declared.Accepted.TheVariants.{Done, Plain}
@@ -48,5 +45,5 @@ counter_of (Ok (who.Claims c)) = c.counter
 
 -- what is held is not above a counter that is not below it
 pub not-above : (held : Option ℕ) (n : ℕ) → below held n ≡ false → (h : ℕ) → held ≡ Some h → h ≤ n
-not-above None n f h q = absurd (none-some h q)
-not-above (Some m) n f h q = let same : m ≡ h = same_Some m h q in omega (arith, ltb-false n m f)
+not-above None n f h q = cc
+not-above (Some m) n f h q = let same : m ≡ h = cc in omega (arith, ltb-false n m f)
