@@ -1,7 +1,6 @@
 -- DEMAND 3 OF THE CODE, APS: `aps-code-in-any-order`. Assumes nothing.
-use Rattle.std.specs.Prelude.{◌≡◌, refl, List, [], ◌∷◌, ℕ, ◌+◌, ◌≤◌, length}
+use Rattle.std.specs.Prelude.{◌≡◌, refl, List, [], ◌∷◌, ℕ, ◌+◌, ◌≤◌, length, Some}
 use Rattle.std.proofs.Common.{ap, ◌∙◌}
-use Rattle.std.specs.Prelude.{Some}
 use Rattle.answer.specs.Numbers.{told}
 use Rattle.cells.specs.Desk.{write, open_at, open_all}
 use Rattle.cells.specs.Reorder.{Reordered}
@@ -48,7 +47,7 @@ call-of g b =
     let o = open_aps g.aps g.pairs b in
     record {
       lifetimes = ([], ([], tt));
-      arguments = (g.aps, (record { ref_ptr = 0; ghost_name = 0; now = g.pairs }, (record { ref_ptr = (0, 0); ghost_name = 1; now = b }, tt)));
+      arguments = (g.aps, (record { ref_ptr = (0, 0); ghost_name = 0; now = g.pairs }, (record { ref_ptr = (0, 0); ghost_name = 1; now = b }, tt)));
       result = o.answer;
       last = (tt, (o.pairs, (o.frame, tt)));
       aps = refl;

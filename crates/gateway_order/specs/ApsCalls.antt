@@ -1,7 +1,6 @@
 -- The same for `aps::open_aps`: a gateway that calls it for one frame after another. `Reads.Post` is what the prover itself has read from the `ensures`
 -- of the code.
-use Rattle.std.specs.Prelude.{◌≡◌, List, [], ◌∷◌, ℕ}
-use Rattle.std.specs.Prelude.{Some}
+use Rattle.std.specs.Prelude.{◌≡◌, List, [], ◌∷◌, ℕ, Some}
 use contract.Lifetimes.{Lfts}
 use denote.Triple.Entry.{Args, Res}
 use denote.Triple.Clauses.{Lasts, at_exit}
