@@ -1,32 +1,35 @@
 -- ONE OUTCOME (document 01, 'What the promises have to decide'). For each public function: two results, with two contents of all memory
 -- lent, that its promise allows are equal. The promises are not written again here: `f-reads.Post` is what the prover itself has read from
 -- the `ensures` of f. Of nine functions, which were proved by hand once, the claim is also written down, and `f-says` shows that it is their
--- `ensures`.
-use Rattle.std.specs.Prelude.{ℕ, ◌^◌, ◌<◌, Bool, cond, List, ◌≡◌, refl}
+-- `ensures`. Two kinds are left out: what prints (`Display`, `Debug`) promises no text, and `input::read_full` reads from outside.
+use Rattle.std.specs.Prelude.{ℕ, ◌^◌, ◌<◌, List, length, ◌≡◌, refl}
 use Rattle.std.proofs.Common.{sym, ap, ◌∙◌}
 use contract.Lifetimes.{Lfts}
 use denote.Triple.Entry.{Args, Res}
 use denote.Triple.Clauses.{Lasts, at_exit}
-use Rattle.answer.specs.Numbers.{Outcome}
-use Rattle.answer.specs.Numbers.{when_done}
+use Rattle.answer.specs.Numbers.{Outcome, when_done}
 use Rattle.nib.proofs.CounterLaws as counters
 use Rattle.nib.specs.Sending.{taken}
 use Rattle.nib.specs.SendingLaws as sending
+use Rattle.by_value.proofs.OneLaws.{one_left, one_took}
+use Rattle.aib.specs.PairLaws.{one_advanced, one_recorded}
+use Rattle.decided.proofs.OneTable.{same_round, same_substitution}
 use Rattle.decided.specs.KeyWords.{Words, Small, same_word, same-words, same-state}
-use Rattle.answer.specs.contracts.number_of as answer-number-of'
-use Rattle.answer.proofs.number_of.Reads as answer-number-of-reads
+use Rattle.answer.specs.contracts.U8FromRefusal.from as answer-number-of'
+use Rattle.answer.proofs.U8FromRefusal.from.Reads as answer-number-of-reads
 use Rattle.answer.specs.contracts.outcome_number as answer-outcome-number'
 use Rattle.answer.proofs.outcome_number.Reads as answer-outcome-number-reads
-use Rattle.answer.specs.contracts.told_of as answer-told-of'
-use Rattle.answer.proofs.told_of.Reads as answer-told-of-reads
+use Rattle.answer.specs.contracts.ToldFromAnswer.from as answer-told-of'
+use Rattle.answer.proofs.ToldFromAnswer.from.Reads as answer-told-of-reads
+use Rattle.tables.specs.contracts.round_table as tables-round-table'
+use Rattle.tables.specs.contracts.substitution_table as tables-substitution-table'
+use Rattle.tables.specs.contracts.cipher_tables as tables-cipher-tables'
 use Rattle.tables.specs.contracts.substituted as tables-substituted'
 use Rattle.tables.proofs.substituted.Reads as tables-substituted-reads
 use Rattle.tables.specs.contracts.round_entry as tables-round-entry'
 use Rattle.tables.proofs.round_entry.Reads as tables-round-entry-reads
 use Rattle.tables.specs.contracts.tag_length as tables-tag-length'
 use Rattle.tables.proofs.tag_length.Reads as tables-tag-length-reads
-use Rattle.octets.specs.contracts.least as octets-least'
-use Rattle.octets.proofs.least.Reads as octets-least-reads
 use Rattle.octets.specs.contracts.xor_into as octets-xor-into'
 use Rattle.octets.proofs.xor_into.Reads as octets-xor-into-reads
 use Rattle.octets.specs.contracts.same as octets-same'
@@ -107,6 +110,8 @@ use Rattle.fields.specs.contracts.field_at as fields-field-at'
 use Rattle.fields.proofs.field_at.Reads as fields-field-at-reads
 use Rattle.frame_header.specs.contracts.nwk as header-nwk'
 use Rattle.frame_header.proofs.nwk.Reads as header-nwk-reads
+use Rattle.frame_header.specs.contracts.network.U8FromNwkKind.from as header-kind-number'
+use Rattle.frame_header.proofs.network.U8FromNwkKind.from.Reads as header-kind-number-reads
 use Rattle.frame_header.specs.contracts.aps as header-aps'
 use Rattle.frame_header.proofs.aps.Reads as header-aps-reads
 use Rattle.frame_header.specs.contracts.application.ApsControl.taken as header-taken'
@@ -119,6 +124,8 @@ use Rattle.frame_header.specs.contracts.application.ApsControl.length as header-
 use Rattle.frame_header.proofs.application.ApsControl.length.Reads as header-length-reads
 use Rattle.nib.specs.contracts.key_of as nib-key-of'
 use Rattle.nib.proofs.key_of.Reads as nib-key-of-reads
+use Rattle.nib.specs.contracts.key_under as nib-key-under'
+use Rattle.nib.proofs.key_under.Reads as nib-key-under-reads
 use Rattle.nib.specs.contracts.key_row as nib-key-row'
 use Rattle.nib.proofs.key_row.Reads as nib-key-row-reads
 use Rattle.nib.specs.contracts.capacity as nib-capacity'
@@ -133,20 +140,10 @@ use Rattle.nib.specs.contracts.following as nib-following'
 use Rattle.nib.proofs.following.Reads as nib-following-reads
 use Rattle.nib.specs.contracts.turned as nib-turned'
 use Rattle.nib.proofs.turned.Reads as nib-turned-reads
-use Rattle.nib.specs.contracts.searched as nib-searched'
-use Rattle.nib.proofs.searched.Reads as nib-searched-reads
 use Rattle.nib.specs.contracts.empty_row as nib-empty-row'
 use Rattle.nib.proofs.empty_row.Reads as nib-empty-row-reads
 use Rattle.nib.specs.contracts.recorded_row as nib-recorded-row'
 use Rattle.nib.proofs.recorded_row.Reads as nib-recorded-row-reads
-use Rattle.nib.specs.contracts.nobody as nib-nobody'
-use Rattle.nib.proofs.nobody.Reads as nib-nobody-reads
-use Rattle.nib.specs.contracts.somebody as nib-somebody'
-use Rattle.nib.proofs.somebody.Reads as nib-somebody-reads
-use Rattle.nib.specs.contracts.placing as nib-placing'
-use Rattle.nib.proofs.placing.Reads as nib-placing-reads
-use Rattle.nib.specs.contracts.closing as nib-closing'
-use Rattle.nib.proofs.closing.Reads as nib-closing-reads
 use Rattle.counter_record.specs.contracts.take as counter-record-take'
 use Rattle.counter_rows.specs.contracts.held as counter-rows-held'
 use Rattle.counter_rows.specs.contracts.settle as counter-rows-settle'
@@ -175,12 +172,16 @@ use Rattle.claims.specs.contracts.nwk_who as claims-nwk-who'
 use Rattle.claims.proofs.nwk_who.Reads as claims-nwk-who-reads
 use Rattle.claims.specs.contracts.aps_who as claims-aps-who'
 use Rattle.claims.proofs.aps_who.Reads as claims-aps-who-reads
-use Rattle.protection.specs.contracts.unprotect as protection-unprotect'
-use Rattle.protection.proofs.unprotect.Reads as protection-unprotect-reads
-use Rattle.protection.specs.contracts.vouch as protection-vouch'
-use Rattle.protection.proofs.vouch.Reads as protection-vouch-reads
-use Rattle.protection.specs.contracts.protect as protection-protect'
-use Rattle.protection.proofs.protect.Reads as protection-protect-reads
+use Rattle.protection.specs.contracts.fresh as protection-fresh'
+use Rattle.protection.proofs.fresh.Reads as protection-fresh-reads
+use Rattle.protection.specs.contracts.Envelope.unprotect as protection-unprotect'
+use Rattle.protection.proofs.Envelope.unprotect.Reads as protection-unprotect-reads
+use Rattle.protection.specs.contracts.Envelope.vouch as protection-vouch'
+use Rattle.protection.proofs.Envelope.vouch.Reads as protection-vouch-reads
+use Rattle.protection.specs.contracts.Envelope.open as protection-open'
+use Rattle.protection.proofs.Envelope.open.Reads as protection-open-reads
+use Rattle.protection.specs.contracts.Envelope.protect as protection-protect'
+use Rattle.protection.proofs.Envelope.protect.Reads as protection-protect-reads
 use Rattle.judging.specs.contracts.caller_of as judging-caller-of'
 use Rattle.judging.proofs.caller_of.Reads as judging-caller-of-reads
 use Rattle.judging.specs.contracts.judge as judging-judge'
@@ -216,17 +217,14 @@ use Rattle.pouchkettle.specs.contracts.pouchkettle_hash_add as pouchkettle-hash-
 use Rattle.pouchkettle.proofs.pouchkettle_hash_add.Reads as pouchkettle-hash-add-reads
 use Rattle.pouchkettle.specs.contracts.pouchkettle_hash_finish as pouchkettle-hash-finish'
 use Rattle.pouchkettle.proofs.pouchkettle_hash_finish.Reads as pouchkettle-hash-finish-reads
-use Rattle.reader.specs.contracts.start as reader-start'
-use Rattle.reader.proofs.start.Reads as reader-start-reads
-use Rattle.reader.specs.contracts.next as reader-next'
-use Rattle.reader.proofs.next.Reads as reader-next-reads
+use Rattle.reader.specs.contracts.reading.Reader.start as reader-start'
+use Rattle.reader.proofs.reading.Reader.start.Reads as reader-start-reads
+use Rattle.reader.specs.contracts.reading.Reader.next as reader-next'
+use Rattle.reader.proofs.reading.Reader.next.Reads as reader-next-reads
 use Rattle.decided.specs.Decides.{Decides, Says, counter-record-take-promise, counter-rows-held-promise, counter-rows-settle-promise, counter-rows-forget-promise, nwk-open-nwk-promise, nwk-secure-nwk-promise, pouchkettle-open-nwk-promise, pouchkettle-secure-nwk-promise, pouchkettle-forget-promise}
 
 when-same : {r r' : Outcome} (x y : List ℕ) → r ≡ r' → when_done r x y ≡ when_done r' x y
 when-same x y e = ap (λ (r : Outcome). when_done r x y) e
-
-cond_same : {r r' : Bool} (x y : List ℕ) → r ≡ r' → cond r x y ≡ cond r' x y
-cond_same x y e = ap (λ (r : Bool). cond r x y) e
 
 -- ---- answer
 
@@ -244,6 +242,20 @@ answer-told-of κs a z z' ws ws' p q = (p ∙ sym q, refl)
 
 -- ---- tables
 
+-- These three promise what their types say: a table has the rule. The bytes that it lends, so many as the type `[u8; 2048]` or `[u8; 256]` says, are
+-- then the same; where they lie is left open.
+pub tables-round-table : (κs : Lfts (tables-round-table'.signature).lifetimes) (a : Args tables-round-table'.signature κs) (z z' : Res tables-round-table'.signature κs) (ws ws' : Lasts tables-round-table'.ended κs a)
+    → length z.bytes.now ≡ 2048 → length z'.bytes.now ≡ 2048 → (z.bytes.now ≡ z'.bytes.now) × (ws ≡ ws')
+tables-round-table κs a z z' ws ws' h l = (same_round _ _ h l z.ruled z'.ruled, refl)
+
+pub tables-substitution-table : (κs : Lfts (tables-substitution-table'.signature).lifetimes) (a : Args tables-substitution-table'.signature κs) (z z' : Res tables-substitution-table'.signature κs) (ws ws' : Lasts tables-substitution-table'.ended κs a)
+    → length z.bytes.now ≡ 256 → length z'.bytes.now ≡ 256 → (z.bytes.now ≡ z'.bytes.now) × (ws ≡ ws')
+tables-substitution-table κs a z z' ws ws' h l = (same_substitution _ _ h l z.ruled z'.ruled, refl)
+
+pub tables-cipher-tables : (κs : Lfts (tables-cipher-tables'.signature).lifetimes) (a : Args tables-cipher-tables'.signature κs) (z z' : Res tables-cipher-tables'.signature κs) (ws ws' : Lasts tables-cipher-tables'.ended κs a)
+    → length z.round.bytes.now ≡ 2048 → length z'.round.bytes.now ≡ 2048 → length z.substitution.bytes.now ≡ 256 → length z'.substitution.bytes.now ≡ 256 → (z.round.bytes.now ≡ z'.round.bytes.now) × (z.substitution.bytes.now ≡ z'.substitution.bytes.now) × (ws ≡ ws')
+tables-cipher-tables κs a z z' ws ws' h l m n = (same_round _ _ h l z.round.ruled z'.round.ruled, same_substitution _ _ m n z.substitution.ruled z'.substitution.ruled, refl)
+
 pub tables-substituted : Decides tables-substituted'.ended tables-substituted-reads.Post
 unfolding Decides
 tables-substituted κs a z z' ws ws' p q = (p ∙ sym q, refl)
@@ -257,10 +269,6 @@ unfolding Decides
 tables-tag-length κs a z z' ws ws' p q = (p ∙ sym q, refl)
 
 -- ---- octets
-
-pub octets-least : Decides octets-least'.ended octets-least-reads.Post
-unfolding Decides
-octets-least κs a z z' ws ws' p q = (p ∙ sym q, refl)
 
 pub octets-xor-into : Decides octets-xor-into'.ended octets-xor-into-reads.Post
 unfolding Decides
@@ -351,33 +359,33 @@ mmo-hash-start-from κs a z z' ws ws' p q = (p ∙ sym q, refl)
 
 pub mmo-hash-add-with : Decides mmo-hash-add-with'.ended mmo-hash-add-with-reads.Post
 unfolding Decides
-mmo-hash-add-with κs a z z' ws ws' p q = (λ i. record { outcome = (p.0 ∙ sym q.0) i; state = (p.1 ∙ sym q.1) i }, refl)
+mmo-hash-add-with κs a z z' ws ws' p q = (p ∙ sym q, refl)
 
 pub mmo-hash-add : Decides mmo-hash-add'.ended mmo-hash-add-reads.Post
 unfolding Decides
-mmo-hash-add κs a z z' ws ws' p q = (λ i. record { outcome = (p.0 ∙ sym q.0) i; state = (p.1 ∙ sym q.1) i }, refl)
+mmo-hash-add κs a z z' ws ws' p q = (p ∙ sym q, refl)
 
 pub mmo-hash-finish-with : Decides mmo-hash-finish-with'.ended mmo-hash-finish-with-reads.Post
 unfolding Decides
-mmo-hash-finish-with κs a z z' ws ws' p q = let e = p.0 ∙ sym q.0 in (λ i. record { outcome = e i; value = (p.1 ∙ when-same _ _ e ∙ sym q.1) i }, refl)
+mmo-hash-finish-with κs a z z' ws ws' p q = (p ∙ sym q, refl)
 
 pub mmo-hash-finish : Decides mmo-hash-finish'.ended mmo-hash-finish-reads.Post
 unfolding Decides
-mmo-hash-finish κs a z z' ws ws' p q = let e = p.0 ∙ sym q.0 in (λ i. record { outcome = e i; value = (p.1 ∙ when-same _ _ e ∙ sym q.1) i }, refl)
+mmo-hash-finish κs a z z' ws ws' p q = (p ∙ sym q, refl)
 
 -- ---- primitives
 
 pub primitives-hash : Decides primitives-hash'.ended primitives-hash-reads.Post
 unfolding Decides
-primitives-hash κs a z z' ws ws' p q = let e = p.0 ∙ sym q.0 in (λ i. record { outcome = e i; value = (p.1 ∙ when-same _ _ e ∙ sym q.1) i }, refl)
+primitives-hash κs a z z' ws ws' p q = (p ∙ sym q, refl)
 
 pub primitives-hash-from : Decides primitives-hash-from'.ended primitives-hash-from-reads.Post
 unfolding Decides
-primitives-hash-from κs a z z' ws ws' p q = let e = p.0 ∙ sym q.0 in (λ i. record { outcome = e i; value = (p.1 ∙ when-same _ _ e ∙ sym q.1) i }, refl)
+primitives-hash-from κs a z z' ws ws' p q = (p ∙ sym q, refl)
 
 pub primitives-keyed-hash : Decides primitives-keyed-hash'.ended primitives-keyed-hash-reads.Post
 unfolding Decides
-primitives-keyed-hash κs a z z' ws ws' p q = let e = p.0 ∙ sym q.0 in (λ i. record { outcome = e i; value = (p.1 ∙ when-same _ _ e ∙ sym q.1) i }, refl)
+primitives-keyed-hash κs a z z' ws ws' p q = (p ∙ sym q, refl)
 
 -- ---- control
 
@@ -447,6 +455,10 @@ pub header-nwk : Decides header-nwk'.ended header-nwk-reads.Post
 unfolding Decides
 header-nwk κs a z z' ws ws' p q = (p ∙ sym q, refl)
 
+pub header-kind-number : Decides header-kind-number'.ended header-kind-number-reads.Post
+unfolding Decides
+header-kind-number κs a z z' ws ws' p q = (p ∙ sym q, refl)
+
 pub header-aps : Decides header-aps'.ended header-aps-reads.Post
 unfolding Decides
 header-aps κs a z z' ws ws' p q = (p ∙ sym q, refl)
@@ -472,6 +484,10 @@ header-length κs a z z' ws ws' p q = (p ∙ sym q, refl)
 pub nib-key-of : Decides nib-key-of'.ended nib-key-of-reads.Post
 unfolding Decides
 nib-key-of κs a z z' ws ws' p q = (p ∙ sym q, refl)
+
+pub nib-key-under : Decides nib-key-under'.ended nib-key-under-reads.Post
+unfolding Decides
+nib-key-under κs a z z' ws ws' p q = (p ∙ sym q, refl)
 
 pub nib-key-row : Decides nib-key-row'.ended nib-key-row-reads.Post
 unfolding Decides
@@ -501,10 +517,6 @@ pub nib-turned : Decides nib-turned'.ended nib-turned-reads.Post
 unfolding Decides
 nib-turned κs a z z' ws ws' p q = (p ∙ sym q, refl)
 
-pub nib-searched : Decides nib-searched'.ended nib-searched-reads.Post
-unfolding Decides
-nib-searched κs a z z' ws ws' p q = (p ∙ sym q, refl)
-
 pub nib-empty-row : Decides nib-empty-row'.ended nib-empty-row-reads.Post
 unfolding Decides
 nib-empty-row κs a z z' ws ws' p q = (p ∙ sym q, refl)
@@ -512,22 +524,6 @@ nib-empty-row κs a z z' ws ws' p q = (p ∙ sym q, refl)
 pub nib-recorded-row : Decides nib-recorded-row'.ended nib-recorded-row-reads.Post
 unfolding Decides
 nib-recorded-row κs a z z' ws ws' p q = (p ∙ sym q, refl)
-
-pub nib-nobody : Decides nib-nobody'.ended nib-nobody-reads.Post
-unfolding Decides
-nib-nobody κs a z z' ws ws' p q = (p ∙ sym q, refl)
-
-pub nib-somebody : Decides nib-somebody'.ended nib-somebody-reads.Post
-unfolding Decides
-nib-somebody κs a z z' ws ws' p q = (p ∙ sym q, refl)
-
-pub nib-placing : Decides nib-placing'.ended nib-placing-reads.Post
-unfolding Decides
-nib-placing κs a z z' ws ws' p q = (p ∙ sym q, refl)
-
-pub nib-closing : Decides nib-closing'.ended nib-closing-reads.Post
-unfolding Decides
-nib-closing κs a z z' ws ws' p q = (p ∙ sym q, refl)
 
 pub counter-record-take-says : Says counter-record-take'.ended counter-record-take-promise (λ M 𝓤. counter-record-take'.clauses {M = M} {𝓤 = 𝓤})
 unfolding Says
@@ -551,7 +547,7 @@ counter-rows-settle-says M 𝓤 𝓛 mem run κs a g z e = refl
 
 pub counter-rows-settle : Decides counter-rows-settle'.ended counter-rows-settle-promise
 unfolding Decides
-counter-rows-settle κs a z z' ws ws' p q = let w = counters.one _ z z' _ _ p q in (w.0, λ i. (w.1 i, (tt, (tt, tt))))
+counter-rows-settle κs a z z' ws ws' p q = let w = counters.one _ _ z z' _ _ p q in (w.0, λ i. (w.1 i, (tt, (tt, tt))))
 
 pub counter-rows-forget-says : Says counter-rows-forget'.ended counter-rows-forget-promise (λ M 𝓤. counter-rows-forget'.clauses {M = M} {𝓤 = 𝓤})
 unfolding Says
@@ -559,21 +555,21 @@ counter-rows-forget-says M 𝓤 𝓛 mem run κs a g z e = refl
 
 pub counter-rows-forget : Decides counter-rows-forget'.ended counter-rows-forget-promise
 unfolding Decides
-counter-rows-forget κs a z z' ws ws' p q = let w = counters.one _ z z' _ _ p q in (w.0, λ i. (w.1 i, (tt, (tt, tt))))
+counter-rows-forget κs a z z' ws ws' p q = let w = counters.one _ _ z z' _ _ p q in (w.0, λ i. (w.1 i, (tt, (tt, tt))))
 
 -- ---- by_value
 
 pub by-value-settle-with : Decides by-value-settle-with'.ended by-value-settle-with-reads.Post
 unfolding Decides
-by-value-settle-with κs a z z' ws ws' p q = let same = p ∙ sym q in (λ i. record { rows = (same i).rows; used = (same i).used; outcome = (same i).outcome }, refl)
+by-value-settle-with κs a z z' ws ws' p q = (one_left _ a.0 z z' p q, refl)
 
 pub by-value-record-with : Decides by-value-record-with'.ended by-value-record-with-reads.Post
 unfolding Decides
-by-value-record-with κs a z z' ws ws' p q = let same = p ∙ sym q in (λ i. record { rows = (same i).rows; used = (same i).used; outcome = (same i).outcome }, refl)
+by-value-record-with κs a z z' ws ws' p q = (one_left _ a.0 z z' p q, refl)
 
 pub by-value-forget-with : Decides by-value-forget-with'.ended by-value-forget-with-reads.Post
 unfolding Decides
-by-value-forget-with κs a z z' ws ws' p q = let same = p ∙ sym q in (λ i. record { rows = (same i).rows; used = (same i).used; outcome = (same i).outcome }, refl)
+by-value-forget-with κs a z z' ws ws' p q = (one_left _ a.0 z z' p q, refl)
 
 pub by-value-held-with : Decides by-value-held-with'.ended by-value-held-with-reads.Post
 unfolding Decides
@@ -581,13 +577,13 @@ by-value-held-with κs a z z' ws ws' p q = (p ∙ sym q, refl)
 
 pub by-value-take-with : Decides by-value-take-with'.ended by-value-take-with-reads.Post
 unfolding Decides
-by-value-take-with κs a z z' ws ws' p q = let same = p ∙ sym q in (λ i. record { outcome = (same i).outcome; counter = (same i).counter; outgoing = (same i).outgoing }, refl)
+by-value-take-with κs a z z' ws ws' p q = (one_took _ a.0 z z' p q, refl)
 
 -- ---- aib
 
 pub aib-find : Decides aib-find'.ended aib-find-reads.Post
 unfolding Decides
-aib-find κs a z z' ws ws' p q = (p ∙ sym q, refl)
+aib-find κs a z z' ws ws' p q = (p.0 ∙ sym q.0, refl)
 
 pub aib-usable : Decides aib-usable'.ended aib-usable-reads.Post
 unfolding Decides
@@ -595,11 +591,11 @@ aib-usable κs a z z' ws ws' p q = (p ∙ sym q, refl)
 
 pub aib-advance : Decides aib-advance'.ended aib-advance-reads.Post
 unfolding Decides
-aib-advance κs a z z' ws ws' p q = (p ∙ sym q, refl)
+aib-advance κs a z z' ws ws' p q = let w = one_advanced _ z z' _ _ p q in (w.0, λ i. (w.1 i, (tt, tt)))
 
 pub aib-record : Decides aib-record'.ended aib-record-reads.Post
 unfolding Decides
-aib-record κs a z z' ws ws' p q = (p ∙ sym q, refl)
+aib-record κs a z z' ws ws' p q = let w = one_recorded _ z z' _ _ p q in (w.0, λ i. (w.1 i, (tt, (tt, tt))))
 
 -- ---- claims
 
@@ -617,17 +613,25 @@ claims-aps-who κs a z z' ws ws' p q = (p ∙ sym q, refl)
 
 -- ---- protection
 
+pub protection-fresh : Decides protection-fresh'.ended protection-fresh-reads.Post
+unfolding Decides
+protection-fresh κs a z z' ws ws' p q = (p ∙ sym q, refl)
+
 pub protection-unprotect : Decides protection-unprotect'.ended protection-unprotect-reads.Post
 unfolding Decides
-protection-unprotect κs a z z' ws ws' p q = let e = p.0 ∙ sym q.0 in (e, λ i. (tt, (tt, (tt, ((p.1 ∙ cond_same _ _ e ∙ sym q.1) i, (tt, (tt, tt)))))))
+protection-unprotect κs a z z' ws ws' p q = let e = p.0 ∙ sym q.0 in (e, λ i. (tt, ((p.1 ∙ when-same _ _ e ∙ sym q.1) i, tt)))
 
 pub protection-vouch : Decides protection-vouch'.ended protection-vouch-reads.Post
 unfolding Decides
 protection-vouch κs a z z' ws ws' p q = (p ∙ sym q, refl)
 
+pub protection-open : Decides protection-open'.ended protection-open-reads.Post
+unfolding Decides
+protection-open κs a z z' ws ws' p q = (p.0 ∙ sym q.0, λ i. (tt, (tt, ((p.1 ∙ sym q.1) i, tt))))
+
 pub protection-protect : Decides protection-protect'.ended protection-protect-reads.Post
 unfolding Decides
-protection-protect κs a z z' ws ws' p q = (refl, λ i. (tt, (tt, (tt, ((p ∙ sym q) i, (tt, (tt, (tt, tt))))))))
+protection-protect κs a z z' ws ws' p q = (refl, λ i. (tt, ((p ∙ sym q) i, (tt, tt))))
 
 -- ---- judging and securing
 
@@ -667,7 +671,7 @@ nwk-secure-nwk κs a z z' ws ws' p q = let same = p ∙ sym q in (λ i. (same i)
 
 pub nwk-by-value-open-with : Decides nwk-by-value-open-with'.ended nwk-by-value-open-with-reads.Post
 unfolding Decides
-nwk-by-value-open-with κs a z z' ws ws' p q = let same = p ∙ sym q in (λ i. record { rows = (same i).rows; used = (same i).used; active = (same i).active; answer = (same i).answer }, λ i. (tt, (tt, (tt, ((same i).frame, tt)))))
+nwk-by-value-open-with κs a z z' ws ws' p q = let same = p ∙ sym q in (λ i. record { table = record { rows = (same i).rows; used = (same i).used }; active = (same i).active; answer = (same i).answer }, λ i. (tt, (tt, ((same i).frame, tt))))
 
 pub nwk-by-value-secure-with : Decides nwk-by-value-secure-with'.ended nwk-by-value-secure-with-reads.Post
 unfolding Decides
@@ -677,11 +681,11 @@ nwk-by-value-secure-with κs a z z' ws ws' p q = let same = p ∙ sym q in (λ i
 
 pub aps-open-aps : Decides aps-open-aps'.ended aps-open-aps-reads.Post
 unfolding Decides
-aps-open-aps κs a z z' ws ws' p q = (λ i. record { answer = (p.0 ∙ sym q.0) i; pairs = (p.1 ∙ sym q.1) i }, λ i. (tt, (tt, ((p.2 ∙ sym q.2) i, tt))))
+aps-open-aps κs a z z' ws ws' p q = let same = p ∙ sym q in (λ i. (same i).answer, λ i. (tt, ((same i).pairs, ((same i).frame, tt))))
 
 pub aps-secure-aps : Decides aps-secure-aps'.ended aps-secure-aps-reads.Post
 unfolding Decides
-aps-secure-aps κs a z z' ws ws' p q = (λ i. record { answer = (p.0 ∙ sym q.0) i; pairs = (p.1 ∙ sym q.1) i }, λ i. (tt, (tt, (tt, (tt, (tt, ((p.2 ∙ sym q.2) i, tt)))))))
+aps-secure-aps κs a z z' ws ws' p q = let same = p ∙ sym q in (λ i. (same i).answer, λ i. (tt, ((same i).pairs, (tt, (tt, (tt, ((same i).out, tt)))))))
 
 pub pouchkettle-open-nwk-says : Says pouchkettle-open-nwk'.ended pouchkettle-open-nwk-promise (λ M 𝓤. pouchkettle-open-nwk'.clauses {M = M} {𝓤 = 𝓤})
 unfolding Says
@@ -743,4 +747,4 @@ reader-start κs a z z' ws ws' p q = (p ∙ sym q, refl)
 
 pub reader-next : Decides reader-next'.ended reader-next-reads.Post
 unfolding Decides
-reader-next κs a z z' ws ws' p q = (p ∙ sym q, refl)
+reader-next κs a z z' ws ws' p q = let same = p ∙ sym q in (λ i. (same i).event, λ i. ((same i).reader, (tt, tt)))

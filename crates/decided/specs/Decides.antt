@@ -1,7 +1,7 @@
 -- ONE OUTCOME (document 01, 'What the promises have to decide'). For each public function: two results, with two contents of all memory
 -- lent, that its promise allows are equal. The promises are not written again here: `f-reads.Post` is what the prover itself has read from
 -- the `ensures` of f. Of nine functions, which were proved by hand once, the claim is also written down, and `f-says` shows that it is their
--- `ensures`.
+-- `ensures`. Two kinds are left out: what prints (`Display`, `Debug`) promises no text, and `input::read_full` reads from outside.
 use Rattle.std.specs.Prelude.{◌≡◌}
 use seplogic.Ra.Ura.{Ura}
 use base.Logic.{SProp}
@@ -59,10 +59,10 @@ abbrev pub counter-rows-held-promise : Promise counter-rows-held'.ended
 counter-rows-held-promise κs a z e = z ≡ held_for a.0.now a.1.0 (pair a.1.1.0 a.1.1.1.0)
 
 abbrev pub counter-rows-settle-promise : Promise counter-rows-settle'.ended
-counter-rows-settle-promise κs a z e = left z e.0.now ≡ settled a.0.now a.1.0 a.1.1.0
+counter-rows-settle-promise κs a z e = left z a.1.0 e.0.now ≡ settled a.0.now a.1.0 a.1.1.0
 
 abbrev pub counter-rows-forget-promise : Promise counter-rows-forget'.ended
-counter-rows-forget-promise κs a z e = left z e.0.now ≡ forgotten a.0.now a.1.0 a.1.1.0
+counter-rows-forget-promise κs a z e = left z a.1.0 e.0.now ≡ forgotten a.0.now a.1.0 a.1.1.0
 
 -- ---- nwk
 

@@ -1,7 +1,6 @@
 -- DEMAND 3 OF THE CODE, APS: `aps-code-in-any-order`. Assumes nothing.
-use Rattle.std.specs.Prelude.{◌≡◌, refl, List, [], ◌∷◌, ℕ, ◌+◌, ◌≤◌, length}
+use Rattle.std.specs.Prelude.{◌≡◌, refl, List, [], ◌∷◌, ℕ, ◌+◌, ◌≤◌, length, Some}
 use Rattle.std.proofs.Common.{ap, ◌∙◌}
-use Rattle.std.specs.Prelude.{Some}
 use Rattle.answer.specs.Numbers.{told}
 use Rattle.cells.specs.Desk.{write, open_at, open_all}
 use Rattle.cells.specs.Reorder.{Reordered}
@@ -12,10 +11,8 @@ use Rattle.order.specs.Aps as aps
 use Rattle.gateway_order.specs.ApsCalls.{Call, called, Calls, None, then}
 
 -- a call leaves what the definition says
-promised-is : (g : aps.Gateway) (b : List ℕ) (c : Call g b) → record { answer = c.result.answer; frame = c.last.1.1.0; pairs = c.result.pairs } ≡ open_aps g.aps g.pairs b
-promised-is g b c =
-    let p = c.promised in
-    (λ i. record { answer = p.0 i; frame = p.2 i; pairs = p.1 i }) ∙ (λ i. open_aps (c.aps i) (c.pairs i) (c.frame i))
+promised-is : (g : aps.Gateway) (b : List ℕ) (c : Call g b) → record { answer = c.result; frame = c.last.1.1.0; pairs = c.last.1.0 } ≡ open_aps g.aps g.pairs b
+promised-is g b c = c.promised ∙ (λ i. open_aps (c.aps i) (c.pairs i) (c.frame i))
 
 called_is : (d : aps.ApsDesk) (i : ℕ) (c : Call d.state (d.buffer i)) → called d i c ≡ open_at aps.answer aps.after leaves says d i
 unfolding open_at
@@ -49,14 +46,14 @@ call-of : (g : aps.Gateway) (b : List ℕ) → Call g b
 call-of g b =
     let o = open_aps g.aps g.pairs b in
     record {
-      lifetimes = ([], tt);
-      arguments = (g.aps, (g.pairs, (record { ref_ptr = (0, 0); ghost_name = 0; now = b }, tt)));
-      result = record { answer = o.answer; pairs = o.pairs };
-      last = (tt, (tt, (o.frame, tt)));
+      lifetimes = ([], ([], tt));
+      arguments = (g.aps, (record { ref_ptr = (0, 0); ghost_name = 0; now = g.pairs }, (record { ref_ptr = (0, 0); ghost_name = 1; now = b }, tt)));
+      result = o.answer;
+      last = (tt, (o.pairs, (o.frame, tt)));
       aps = refl;
       pairs = refl;
       frame = refl;
-      promised = (refl, refl, refl);
+      promised = refl;
     }
 
 pub calls-exist : (d : aps.ApsDesk) (p : List ℕ) → Calls d p (aps.opened d p)

@@ -1,8 +1,7 @@
 -- DEMAND 3 OF THE CODE: `code-in-any-order`. Assumes nothing.
-use Rattle.std.specs.Prelude.{◌≡◌, refl, ℕ, ◌+◌, ◌≤◌, length}
+use Rattle.std.specs.Prelude.{◌≡◌, refl, ℕ, ◌+◌, ◌≤◌, length, Some}
 use Rattle.std.proofs.Common.{ap, ◌∙◌}
 use mathlib.Core.List.{List, [], ◌∷◌, Memᴰ as Mem}
-use Rattle.std.specs.Prelude.{Some}
 use Rattle.answer.specs.Numbers.{told}
 use Rattle.cells.specs.Desk.{write, open_at, open_all}
 use Rattle.cells.specs.Reorder.{Reordered}

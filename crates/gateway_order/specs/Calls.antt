@@ -1,7 +1,6 @@
 -- A gateway that calls `nwk::open_nwk` for one frame after another, each in a buffer of its own. What a call returns and leaves is whatever its promise
 -- allows. `nwk-open-nwk-promise` is the `ensures` of the code: `nwk-open-nwk-says`, beside it in the crate `decided`, shows that.
-use Rattle.std.specs.Prelude.{◌≡◌, List, [], ◌∷◌, ℕ}
-use Rattle.std.specs.Prelude.{Some}
+use Rattle.std.specs.Prelude.{◌≡◌, List, [], ◌∷◌, ℕ, Some}
 use contract.Lifetimes.{Lfts}
 use denote.Triple.Entry.{Args, Res}
 use denote.Triple.Clauses.{Lasts, at_exit}
