@@ -110,11 +110,7 @@ pub(crate) fn read_auxiliary(case: &Case<'_>, line: Line<'_>) -> io::Result<()> 
     }
 }
 
-pub(crate) fn write_auxiliary(
-    case: &Case<'_>,
-    space: &mut [u8],
-    line: Line<'_>,
-) -> io::Result<()> {
+pub(crate) fn write_auxiliary(case: &Case<'_>, space: &mut [u8], line: Line<'_>) -> io::Result<()> {
     let head = case.head;
     if space.len() < head.room {
         return line.text("bad\n");

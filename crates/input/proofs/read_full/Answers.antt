@@ -18,8 +18,7 @@ pub loop-preserved : goal.loop-preserved
 loop-preserved g c =
     let l = c.loop in
     let r = c.in_ok-more in
-    let e = r.ensures in
-    (
+    let e = r.ensures in (
       search rules,
       search rules,
       subst (Consumes _ _) (sym (read-past l.count (length l.space - l.count) r.more l.space c.read.new.buf l.invariant.0 e.bound.0)) (Consumes-trans _ _ _ _ _ l.invariant.2 e.bytes.0),
