@@ -1,7 +1,9 @@
 // The calls below the frames: hashes, control byte, headers, auxiliary header, cipher.
+ghost use Rattle.std.specs.Prelude.{◌≤◌, length};
+
 use crate::asked::Case;
 use crate::classes::nwk_class;
-use crate::parts::{filled, parted};
+use crate::parts::bytes_at;
 use crate::telling::{Line, NUMBERS, ROWS};
 use answer::Refusal;
 use auxiliary_header::{Auxiliary, KeyUsed};
@@ -124,24 +126,25 @@ pub(crate) fn write_auxiliary(case: &Case<'_>, space: &mut [u8], line: Line<'_>)
 }
 
 // Key, nonce and associated data, as the first string has them.
+#[derive(Clone, Copy)]
 struct Under<'a> {
     keys: [u32; 44],
     nonce: [u8; 13],
     associated: &'a [u8],
 }
 
-fn under(s: &[u8]) -> Under<'_> {
-    let (key, rest) = parted(s, 16);
-    let (nonce, associated) = parted(rest, 13);
+fn read_under(s: &[u8]) -> Under<'_> {
     Under {
-        keys: aes::expand(filled(key)),
-        nonce: filled(nonce),
-        associated,
+        keys: aes::expand(bytes_at(s, 0)),
+        nonce: bytes_at(s, 16),
+        associated: s.get(29..).unwrap_or(&[]),
     }
 }
 
 // Two strings laid into the space, one after the other: where the second ends, or 0 where there is no space for both.
-fn laid(a: &[u8], b: &[u8], space: &mut [u8]) -> usize {
+fn laid(a: &[u8], b: &[u8], space: &mut [u8]) -> usize
+    ensures { result ≤ length space.new }
+{
     for (to, from) in space.iter_mut().zip(a.iter().chain(b)) {
         *to = *from;
     }
@@ -153,7 +156,7 @@ fn laid(a: &[u8], b: &[u8], space: &mut [u8]) -> usize {
 
 // The message is in the second string. The message with its tag is told.
 pub(crate) fn seal(case: &Case<'_>, space: &mut [u8], line: Line<'_>) -> io::Result<()> {
-    let under = under(case.first);
+    let under = read_under(case.first);
     let at = under.associated.len();
     let tag = case.head.number as usize;
     let end = laid(under.associated, case.second, space) + tag;
@@ -168,7 +171,7 @@ pub(crate) fn seal(case: &Case<'_>, space: &mut [u8], line: Line<'_>) -> io::Res
 
 // The same, with the sealed message and its tag in the second string. What stands there after the call is told.
 pub(crate) fn unseal(case: &Case<'_>, space: &mut [u8], line: Line<'_>) -> io::Result<()> {
-    let under = under(case.first);
+    let under = read_under(case.first);
     let at = under.associated.len();
     let n = case.second.len();
     let tag = case.head.number as usize;

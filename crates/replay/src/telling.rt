@@ -1,7 +1,5 @@
 // The line that answers a case: answer, start, length, numbers, rows, bytes, with a space between two. `-` is none, `.` what the case does not
 // ask for.
-ghost use Rattle.std.specs.Prelude.{};
-
 use answer::{Accepted, Answer, Refusal};
 use std::io::{self, Write};
 
