@@ -7,7 +7,7 @@ use crate::parts::bytes_at;
 use crate::telling::{Line, NUMBERS, ROWS};
 use answer::Refusal;
 use auxiliary_header::{Auxiliary, KeyUsed};
-use control::{Control, KeyIdentifier};
+use control::Control;
 use std::io;
 
 fn tell_outcome(outcome: Result<(), Refusal>, line: Line<'_>) -> io::Result<()> {
@@ -40,15 +40,6 @@ pub(crate) fn keyed_hash(case: &Case<'_>, line: Line<'_>) -> io::Result<()> {
     tell_value(primitives::keyed_hash(case.first, case.second), line)
 }
 
-fn identifier(key: KeyIdentifier) -> u64 {
-    match key {
-        KeyIdentifier::Link => 0,
-        KeyIdentifier::Network => 1,
-        KeyIdentifier::Transport => 2,
-        KeyIdentifier::Load => 3,
-    }
-}
-
 pub(crate) fn control(case: &Case<'_>, line: Line<'_>) -> io::Result<()> {
     let control = Control {
         byte: case.head.control,
@@ -56,7 +47,7 @@ pub(crate) fn control(case: &Case<'_>, line: Line<'_>) -> io::Result<()> {
     line.number_and_span(0, 0, 0)?;
     line.number(control.level() as u64)?;
     line.next(control.tag_length() as u64)?;
-    line.next(identifier(control.key()))?;
+    line.next(control.key() as u64)?;
     line.next(control.has_sender() as u64)?;
     line.next(control.has_number() as u64)?;
     line.next(control.filled(case.head.level).byte as u64)?;
@@ -96,7 +87,7 @@ fn tell_auxiliary(a: Auxiliary, line: Line<'_>) -> io::Result<()> {
     line.next(a.counter as u64)?;
     line.next(a.sender.is_some() as u64)?;
     line.next(a.sender.unwrap_or(0))?;
-    line.next(identifier(a.control.key()))?;
+    line.next(a.control.key() as u64)?;
     match a.key {
         KeyUsed::Network(number) => line.next(number as u64)?,
         _ => line.next(0)?,

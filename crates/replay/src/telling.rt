@@ -3,7 +3,7 @@
 use answer::{Accepted, Answer, Refusal};
 use std::io::{self, Write};
 
-// What a case asks to be shown.
+// What a case asks to be shown. Bits, since it asks for several at once (compare/README.md): an enum is no plainer.
 const ANSWER: u8 = 1;
 
 const SPAN: u8 = 2;
