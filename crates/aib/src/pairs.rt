@@ -41,7 +41,7 @@ impl PairRow {
     }
 }
 
-// Of the rows the first `used` are in use.
+// Of the rows the first `used` are in use. Rows with a count beside them: the C interface holds it (pouchkettle_open_aps).
 #[repr(C)]
 #[derive(Clone, Copy)]
 pub struct Pairs {

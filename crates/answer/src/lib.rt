@@ -48,6 +48,7 @@ pub enum Accepted {
 pub type Answer = Result<Accepted, Refusal>;
 
 // The answer's number, and the start and length that go with it.
+// A number and no enum, with zeros beside a refusal's: the C interface holds it (what pouchkettle_open_nwk tells).
 #[repr(C)]
 #[derive(Clone, Copy, Debug, PartialEq, Eq)]
 pub struct Told {

@@ -1,7 +1,6 @@
 // Securing an APS frame (document 01, 'Order of checks'): the judgement, then the finished frame and the counter of the row used.
-ghost use Rattle.std.specs.Prelude.{◌≡◌, false, ◌++◌, ◌+◌, ◌≤◌, length, take, drop};
+ghost use Rattle.std.specs.Prelude.{◌≡◌, false, ◌++◌, ◌+◌, ◌≤◌, length, drop};
 ghost use Rattle.control.specs.Control.{has_number, sent};
-ghost use Rattle.auxiliary_header.specs.Auxiliary.{auxiliary_octets};
 ghost use Rattle.aps.specs.SecureAps.{aps_on_air, secure_aps};
 
 use crate::keys::key_for;
@@ -9,31 +8,12 @@ use crate::sending::{ADDED, Chosen, judged};
 use crate::state::Aps;
 use aib::Pairs;
 use answer::{Accepted, Answer};
-use control::{Control, KeyIdentifier};
+use control::Control;
 use frame_header::ApsControl;
 use protection::Envelope;
 
 // Control, counter and sender.
 const AUXILIARY: usize = 13;
-
-// The headers and the payload as they stand before the payload is enciphered.
-fn lay(
-    own: u64,
-    counter: u32,
-    identifier: KeyIdentifier,
-    plain: &[u8],
-    header: usize,
-    out: &mut [u8],
-)
-    requires { (has_number (sent identifier) ≡ false) × (header ≤ length plain.now) × (length plain.now ≤ 1006) × (length plain.now + 17 ≤ length out.old) }
-    ensures { out.new ≡ (take header plain.now ++ auxiliary_octets (sent identifier) counter own 0)
-        ++ (drop header plain.now ++ drop (length plain.now + 13) out.old) }
-{
-    let at = header + AUXILIARY;
-    octets::copy(&plain[..header], out);
-    auxiliary_header::write(out, header, Control::sent(identifier), counter, own, 0).unwrap();
-    octets::copy(&plain[header..], &mut out[at..]);
-}
 
 // The finished frame: headers, payload enciphered, tag.
 fn put(aps: Aps, chosen: Chosen, plain: &[u8], header: usize, out: &mut [u8])
@@ -41,7 +21,6 @@ fn put(aps: Aps, chosen: Chosen, plain: &[u8], header: usize, out: &mut [u8])
     ensures { out.new ≡ aps_on_air aps chosen.row chosen.identifier plain.now header ++ drop (length plain.now + 17) out.old }
 {
     let Chosen { row, identifier } = chosen;
-    lay(aps.own, row.outgoing, identifier, plain, header, out);
     let envelope = Envelope {
         key: key_for(identifier, row.key).unwrap(),
         sender: aps.own,
@@ -49,7 +28,7 @@ fn put(aps: Aps, chosen: Chosen, plain: &[u8], header: usize, out: &mut [u8])
         at: header,
         payload: header + AUXILIARY,
     };
-    envelope.protect(out, plain.len() - header);
+    envelope.send(Control::sent(identifier), 0, plain, out);
 }
 
 // Writes the finished frame to `out` and raises the counter of the row used, or leaves both as they were.

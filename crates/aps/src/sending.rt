@@ -29,7 +29,8 @@ fn octet_at(plain: &[u8], at: usize) -> u8
     plain.get(at).copied().unwrap_or(0)
 }
 
-// A command goes by the link key; a key that is carried, by the key for its type.
+// A command goes by the link key; a key that is carried, by the key for its type. Both are octets of the frame, met here alone: an enum
+// of them is no plainer.
 fn carried_by(command: u8, kind: u8) -> Result<KeyIdentifier, Refusal>
     ensures { result ≡ choice (carried_by command kind) }
 {

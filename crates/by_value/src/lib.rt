@@ -1,5 +1,6 @@
 // The counter rows and the outgoing counter by value, for callers that lend no struct. A function over rows lends its own copy to
-// the function of the same name in `counter_rows`, and hands the copy back.
+// the function of the same name in `counter_rows`, and hands the copy back. What may not change holds these beside those: callers of both
+// forms name them (docs/PROMISES.md, by_value).
 #![tactic(auto)]
 
 ghost use Rattle.std.specs.Prelude.{◌≡◌};
@@ -11,7 +12,7 @@ use answer::Refusal;
 use counter_rows::{forget, held, settle};
 use nib::{CounterRow, Outgoing, Standing};
 
-// Of the rows the first `used` are in use.
+// Of the rows the first `used` are in use. A count beside the rows and no Vec: no heap, fixed memory is a rule of the project.
 #[derive(Clone, Copy, Debug, PartialEq, Eq)]
 pub struct CounterTable {
     pub rows: [CounterRow; 64],

@@ -1,5 +1,5 @@
 // The counters heard, in the caller's rows (document 01, 'The state' and 'Called alone'; ZB table 4-4). The rows are lent as a slice
-// of structs, of which the first `used` are in use.
+// of structs, of which the first `used` are in use. Rows and count come apart: the C interface holds it (pouchkettle_open_nwk).
 #![tactic(auto)]
 
 ghost use Rattle.std.specs.Prelude.{◌≡◌, position};

@@ -180,6 +180,8 @@ use Rattle.protection.specs.contracts.Envelope.vouch as protection-vouch'
 use Rattle.protection.proofs.Envelope.vouch.Reads as protection-vouch-reads
 use Rattle.protection.specs.contracts.Envelope.open as protection-open'
 use Rattle.protection.proofs.Envelope.open.Reads as protection-open-reads
+use Rattle.protection.specs.contracts.Envelope.send as protection-send'
+use Rattle.protection.proofs.Envelope.send.Reads as protection-send-reads
 use Rattle.protection.specs.contracts.Envelope.protect as protection-protect'
 use Rattle.protection.proofs.Envelope.protect.Reads as protection-protect-reads
 use Rattle.judging.specs.contracts.caller_of as judging-caller-of'
@@ -628,6 +630,10 @@ protection-vouch κs a z z' ws ws' p q = (p ∙ sym q, refl)
 pub protection-open : Decides protection-open'.ended protection-open-reads.Post
 unfolding Decides
 protection-open κs a z z' ws ws' p q = (p.0 ∙ sym q.0, λ i. (tt, (tt, ((p.1 ∙ sym q.1) i, tt))))
+
+pub protection-send : Decides protection-send'.ended protection-send-reads.Post
+unfolding Decides
+protection-send κs a z z' ws ws' p q = (refl, λ i. (tt, (tt, (tt, (tt, ((p ∙ sym q) i, tt))))))
 
 pub protection-protect : Decides protection-protect'.ended protection-protect-reads.Post
 unfolding Decides

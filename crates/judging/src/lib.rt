@@ -13,7 +13,8 @@ use claims::{Claim, Who};
 use nib::{CounterRow, NetworkKeys, Nwk, Standing};
 use protection::Envelope;
 
-// Whose row is asked for. Number and sender are 0 where the frame claims to be nobody's: it changes no row.
+// Whose row is asked for; number and sender are 0 where the frame claims to be nobody's. An Option of the two is no plainer: opening
+// would branch where it now looks for a row of 0 and 0, which changes nothing.
 #[derive(Clone, Copy)]
 pub struct Caller {
     pub who: Result<Who, Refusal>,

@@ -10,7 +10,7 @@ pub struct NetworkKey {
     pub key: [u8; 16],
 }
 
-// Of the rows the first `used` are in use.
+// Of the rows the first `used` are in use. Rows with a count beside them: the C interface holds it (pouchkettle_open_nwk's Nwk).
 #[repr(C)]
 #[derive(Clone, Copy)]
 pub struct NetworkKeys {

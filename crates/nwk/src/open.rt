@@ -15,7 +15,8 @@ pub struct OpenedNwk {
     pub active: u8,
 }
 
-// Opens a frame in place. The counter rows are the caller's, and the first `used` of them are in use.
+// Opens a frame in place. The counter rows are the caller's, and the first `used` of them are in use: the C interface holds that they come
+// apart (pouchkettle_open_nwk).
 pub fn open_nwk(nwk: Nwk, rows: &mut [CounterRow], used: usize, frame: &mut [u8]) -> OpenedNwk
     ensures { opened result rows.new frame.new ≡ open_nwk nwk rows.old used frame.old }
 {

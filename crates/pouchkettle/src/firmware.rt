@@ -1,4 +1,5 @@
 // The hash of a firmware file, taken as it comes. What goes from call to call is the gateway's, by value.
+// Its structs tell numbers, with zeros beside a refusal: the C interface holds it.
 ghost use Rattle.std.specs.Prelude.{◌≡◌, ◌+◌, length};
 ghost use Rattle.answer.specs.Numbers.{outcome_number, when_done};
 ghost use Rattle.mmo.specs.Hash.{zero_block, filled};

@@ -1,4 +1,5 @@
 // NWK. The counter rows and the outgoing counter are the gateway's own, lent for the call.
+// Its structs tell numbers, with zeros beside a refusal: the C interface holds it.
 ghost use Rattle.std.specs.Prelude.{◌≡◌};
 ghost use Rattle.answer.specs.Numbers.{outcome_number, told};
 ghost use Rattle.nib.specs.Counters.{forgotten};

@@ -4,6 +4,7 @@
 
 ghost use Rattle.std.specs.Prelude.{◌≡◌, ◌++◌, ◌+◌, ◌≤◌, ◌<◌, length, take, drop};
 ghost use Rattle.answer.specs.Numbers.{when_done};
+ghost use Rattle.auxiliary_header.specs.Auxiliary.{auxiliary_length, auxiliary_octets};
 ghost use Rattle.protection.specs.Protection.{vouches, opened_octets, secured_octets};
 ghost use Rattle.protection.specs.Heard.{freshness, vouching, tried};
 
@@ -102,5 +103,19 @@ impl Envelope {
         out[self.at] = control.byte;
         ccm::seal(&keys, nonce, TAG, out, self.payload, n).unwrap();
         out[self.at] = sent;
+    }
+
+    // The finished frame from the plain one, whose header ends at `at`: headers, payload enciphered, tag. What stands in `out` past it stays.
+    pub fn send(self, control: Control, number: u8, plain: &[u8], out: &mut [u8])
+        requires { (self.at ≤ length plain.now) × (self.payload ≡ self.at + auxiliary_length control.byte) × (length plain.now + auxiliary_length control.byte ≤ 1024)
+            × (length plain.now + auxiliary_length control.byte + 4 ≤ length out.old) }
+        ensures { out.new ≡ secured_octets self.key self.sender self.counter self.at
+            (take self.at plain.now ++ auxiliary_octets control.byte self.counter self.sender number) (drop self.at plain.now)
+            ++ drop (length plain.now + auxiliary_length control.byte + 4) out.old }
+    {
+        octets::copy(&plain[..self.at], out);
+        auxiliary_header::write(out, self.at, control, self.counter, self.sender, number).unwrap();
+        octets::copy(&plain[self.at..], &mut out[self.payload..]);
+        self.protect(out, plain.len() - self.at);
     }
 }

@@ -163,6 +163,7 @@ impl Reader {
     fn act(&mut self, tag: u8, body: &[u8]) -> Result<Event, Fault>
         ensures { eventually result self.new ≡ acted self.old tag body.now }
     {
+        // A tag is met here alone: an enum of the tags is no plainer, as it would be matched once to be made and once here.
         match tag {
             0x01 => self.key_field(body)?,
             0x02 => self.counter_field(body)?,

@@ -1,7 +1,7 @@
 // The calls of `aps` and `aib`.
 use crate::asked::Case;
 use crate::classes::aps_class;
-use crate::tables::{pairs_of, tell_pairs};
+use crate::gateway::{pairs_of, tell_pairs};
 use crate::telling::{Line, NUMBERS};
 use aps::Aps;
 use std::io;

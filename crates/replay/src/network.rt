@@ -1,7 +1,7 @@
 // The calls on NWK frames and counters, with rows and outgoing counter by value.
 use crate::asked::Case;
 use crate::classes::nwk_class;
-use crate::tables::{keys_of, table_of, tell_table};
+use crate::gateway::{keys_of, table_of, tell_table};
 use crate::telling::{Line, NUMBERS, ROWS};
 use answer::Refusal;
 use by_value::CounterTable;
@@ -46,10 +46,11 @@ pub(crate) fn secure(case: &Case<'_>, space: &mut [u8], line: Line<'_>) -> io::R
 }
 
 pub(crate) fn take(case: &Case<'_>, line: Line<'_>) -> io::Result<()> {
-    let mut outgoing = nib::sending(case.head.outgoing);
-    let taken = counter_record::take(&mut outgoing);
+    let before = nib::sending(case.head.outgoing);
+    let taken = by_value::take_with(before);
     line.outcome(taken.map(|_| ()), nwk_class)?;
-    line.number(taken.unwrap_or(0) as u64)?;
+    let (counter, outgoing) = taken.unwrap_or((0, before));
+    line.number(counter as u64)?;
     line.next(outgoing.next as u64)?;
     line.none(ROWS)?;
     line.bytes(&[])

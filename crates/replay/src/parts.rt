@@ -1,6 +1,6 @@
-// Parts of the input. Each of these takes any string: where it ends before, there are zeros.
+// Parts of the input. Each of these takes any place: where the string ends before, there are zeros.
 
-// The N bytes at a place, zeros where the string ends before.
+// The N bytes at a place; zeros alone where the string has fewer.
 pub(crate) fn bytes_at<const N: usize>(s: &[u8], at: usize) -> [u8; N] {
     match s.get(at..) {
         Some(rest) => rest.first_chunk::<N>().copied().unwrap_or([0; N]),
@@ -18,13 +18,6 @@ pub(crate) fn four(s: &[u8], at: usize) -> u32 {
 
 pub(crate) fn eight(s: &[u8], at: usize) -> u64 {
     u64::from_le_bytes(bytes_at(s, at))
-}
-
-// The first N bytes, and zeros where there are fewer.
-pub(crate) fn filled<const N: usize>(s: &[u8]) -> [u8; N] {
-    let mut block = [0u8; N];
-    octets::xor_into(&mut block, s);
-    block
 }
 
 // The first n bytes, or all where there are fewer; and those after them.

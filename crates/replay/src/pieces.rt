@@ -1,11 +1,13 @@
 // The calls below the frames: hashes, control byte, headers, auxiliary header, cipher.
+ghost use Rattle.std.specs.Prelude.{◌≤◌, length};
+
 use crate::asked::Case;
 use crate::classes::nwk_class;
-use crate::parts::{filled, parted};
+use crate::parts::bytes_at;
 use crate::telling::{Line, NUMBERS, ROWS};
 use answer::Refusal;
 use auxiliary_header::{Auxiliary, KeyUsed};
-use control::{Control, KeyIdentifier};
+use control::Control;
 use std::io;
 
 fn tell_outcome(outcome: Result<(), Refusal>, line: Line<'_>) -> io::Result<()> {
@@ -38,15 +40,6 @@ pub(crate) fn keyed_hash(case: &Case<'_>, line: Line<'_>) -> io::Result<()> {
     tell_value(primitives::keyed_hash(case.first, case.second), line)
 }
 
-fn identifier(key: KeyIdentifier) -> u64 {
-    match key {
-        KeyIdentifier::Link => 0,
-        KeyIdentifier::Network => 1,
-        KeyIdentifier::Transport => 2,
-        KeyIdentifier::Load => 3,
-    }
-}
-
 pub(crate) fn control(case: &Case<'_>, line: Line<'_>) -> io::Result<()> {
     let control = Control {
         byte: case.head.control,
@@ -54,7 +47,7 @@ pub(crate) fn control(case: &Case<'_>, line: Line<'_>) -> io::Result<()> {
     line.number_and_span(0, 0, 0)?;
     line.number(control.level() as u64)?;
     line.next(control.tag_length() as u64)?;
-    line.next(identifier(control.key()))?;
+    line.next(control.key() as u64)?;
     line.next(control.has_sender() as u64)?;
     line.next(control.has_number() as u64)?;
     line.next(control.filled(case.head.level).byte as u64)?;
@@ -94,7 +87,7 @@ fn tell_auxiliary(a: Auxiliary, line: Line<'_>) -> io::Result<()> {
     line.next(a.counter as u64)?;
     line.next(a.sender.is_some() as u64)?;
     line.next(a.sender.unwrap_or(0))?;
-    line.next(identifier(a.control.key()))?;
+    line.next(a.control.key() as u64)?;
     match a.key {
         KeyUsed::Network(number) => line.next(number as u64)?,
         _ => line.next(0)?,
@@ -124,24 +117,25 @@ pub(crate) fn write_auxiliary(case: &Case<'_>, space: &mut [u8], line: Line<'_>)
 }
 
 // Key, nonce and associated data, as the first string has them.
+#[derive(Clone, Copy)]
 struct Under<'a> {
     keys: [u32; 44],
     nonce: [u8; 13],
     associated: &'a [u8],
 }
 
-fn under(s: &[u8]) -> Under<'_> {
-    let (key, rest) = parted(s, 16);
-    let (nonce, associated) = parted(rest, 13);
+fn read_under(s: &[u8]) -> Under<'_> {
     Under {
-        keys: aes::expand(filled(key)),
-        nonce: filled(nonce),
-        associated,
+        keys: aes::expand(bytes_at(s, 0)),
+        nonce: bytes_at(s, 16),
+        associated: s.get(29..).unwrap_or(&[]),
     }
 }
 
 // Two strings laid into the space, one after the other: where the second ends, or 0 where there is no space for both.
-fn laid(a: &[u8], b: &[u8], space: &mut [u8]) -> usize {
+fn laid(a: &[u8], b: &[u8], space: &mut [u8]) -> usize
+    ensures { result ≤ length space.new }
+{
     for (to, from) in space.iter_mut().zip(a.iter().chain(b)) {
         *to = *from;
     }
@@ -153,7 +147,7 @@ fn laid(a: &[u8], b: &[u8], space: &mut [u8]) -> usize {
 
 // The message is in the second string. The message with its tag is told.
 pub(crate) fn seal(case: &Case<'_>, space: &mut [u8], line: Line<'_>) -> io::Result<()> {
-    let under = under(case.first);
+    let under = read_under(case.first);
     let at = under.associated.len();
     let tag = case.head.number as usize;
     let end = laid(under.associated, case.second, space) + tag;
@@ -168,7 +162,7 @@ pub(crate) fn seal(case: &Case<'_>, space: &mut [u8], line: Line<'_>) -> io::Res
 
 // The same, with the sealed message and its tag in the second string. What stands there after the call is told.
 pub(crate) fn unseal(case: &Case<'_>, space: &mut [u8], line: Line<'_>) -> io::Result<()> {
-    let under = under(case.first);
+    let under = read_under(case.first);
     let at = under.associated.len();
     let n = case.second.len();
     let tag = case.head.number as usize;

@@ -1,11 +1,9 @@
 // The line that answers a case: answer, start, length, numbers, rows, bytes, with a space between two. `-` is none, `.` what the case does not
 // ask for.
-ghost use Rattle.std.specs.Prelude.{};
-
 use answer::{Accepted, Answer, Refusal};
 use std::io::{self, Write};
 
-// What a case asks to be shown.
+// What a case asks to be shown. Bits, since it asks for several at once (compare/README.md): an enum is no plainer.
 const ANSWER: u8 = 1;
 
 const SPAN: u8 = 2;

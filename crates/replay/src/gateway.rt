@@ -1,6 +1,6 @@
 // The tables of a case, and how they are told.
 use crate::asked::Case;
-use crate::parts::{eight, filled, four, octet};
+use crate::parts::{bytes_at, eight, four, octet};
 use crate::telling::{Line, ROWS};
 use aib::{PairRow, Pairs};
 use by_value::CounterTable;
@@ -8,8 +8,7 @@ use nib::{CounterRow, NetworkKey, NetworkKeys};
 use std::io;
 
 fn key_in(s: &[u8]) -> NetworkKey {
-    let key = s.get(1..).unwrap_or(&[]);
-    nib::key_row(octet(s, 0), filled(key))
+    nib::key_row(octet(s, 0), bytes_at(s, 1))
 }
 
 pub(crate) fn keys_of(case: &Case<'_>) -> NetworkKeys {
@@ -39,11 +38,10 @@ pub(crate) fn table_of(case: &Case<'_>) -> CounterTable {
 }
 
 fn pair_in(s: &[u8]) -> PairRow {
-    let key = s.get(9..).unwrap_or(&[]);
     PairRow {
         device: eight(s, 0),
         attribute: octet(s, 8),
-        key: filled(key),
+        key: bytes_at(s, 9),
         kind: octet(s, 25),
         outgoing: four(s, 26),
         incoming: four(s, 30),
@@ -61,20 +59,38 @@ pub(crate) fn pairs_of(case: &Case<'_>) -> Pairs {
     }
 }
 
+fn tell_row(line: Line<'_>, row: CounterRow) -> io::Result<()> {
+    let CounterRow {
+        number,
+        sender,
+        counter,
+    } = row;
+    print!(line.rt; "{number:02x}{sender:016x}{counter:08x}")
+}
+
 pub(crate) fn tell_table(line: Line<'_>, table: &CounterTable) -> io::Result<()> {
     if !line.shows(ROWS) || table.used == 0 {
         return line.none(ROWS);
     }
     line.text(" ")?;
     for row in table.rows.iter().take(table.used) {
-        let CounterRow {
-            number,
-            sender,
-            counter,
-        } = *row;
-        print!(line.rt; "{number:02x}{sender:016x}{counter:08x}")?;
+        tell_row(line, *row)?;
     }
     Ok(())
+}
+
+fn tell_pair(line: Line<'_>, row: PairRow) -> io::Result<()> {
+    let PairRow {
+        device,
+        attribute,
+        key,
+        kind,
+        outgoing,
+        incoming,
+    } = row;
+    print!(line.rt; "{device:016x}{attribute:02x}")?;
+    line.octets(&key)?;
+    print!(line.rt; "{kind:02x}{outgoing:08x}{incoming:08x}")
 }
 
 pub(crate) fn tell_pairs(line: Line<'_>, pairs: &Pairs) -> io::Result<()> {
@@ -83,17 +99,7 @@ pub(crate) fn tell_pairs(line: Line<'_>, pairs: &Pairs) -> io::Result<()> {
     }
     line.text(" ")?;
     for row in pairs.rows.iter().take(pairs.used) {
-        let PairRow {
-            device,
-            attribute,
-            key,
-            kind,
-            outgoing,
-            incoming,
-        } = *row;
-        print!(line.rt; "{device:016x}{attribute:02x}")?;
-        line.octets(&key)?;
-        print!(line.rt; "{kind:02x}{outgoing:08x}{incoming:08x}")?;
+        tell_pair(line, *row)?;
     }
     Ok(())
 }
