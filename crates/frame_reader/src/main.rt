@@ -1,6 +1,6 @@
 // The frame reader: fields on standard input, a line for each frame on standard output. What it prints is said by `lines` of the crate
-// `reader`; this program only reads and writes. At its end it says on standard error how it went, in one line, since a program has no
-// exit status of its own: the script `frame-reader` makes one of that line.
+// `reader`; this program only reads and writes. At its end it says on standard error how it went, in one line, of which the script
+// `frame-reader` makes the exit status.
 #![tactic(auto)]
 
 use reader::{BadField, Event, Line, Reader};
