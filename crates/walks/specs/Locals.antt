@@ -5,7 +5,7 @@
 --     number           a number owns nothing
 -- Assumes `Logic`.
 use Rattle.std.specs.Prelude.{refl, List, [], ◌∷◌, ◌++◌, ℕ, ◌<◌, ◌^◌}
-use Rattle.std.specs.Prelude.{Option, None, Some}
+use Rattle.std.proofs.Math.Option.{Option, none, some}
 use seplogic.Ra.Ura.{Ura}
 use base.Fraction.{full_share}
 use mir.Syntax.{Ty, Width}
@@ -24,8 +24,8 @@ abbrev pub Local : Type 0
 Local = Ty × ℕ × Option Val
 
 abbrev pub held : Local → Fml
-held (τ, l, None) = froom τ l 0
-held (τ, l, Some v) = fat full_share τ l 0 v
+held (τ, l, none) = froom τ l 0
+held (τ, l, some v) = fat full_share τ l 0 v
 
 module _ {M : Type 1} {𝓤 : Ura M} where
   abbrev pub empty : Ty → ℕ → List (Item 𝓤) → List (Item 𝓤)
@@ -67,8 +67,8 @@ module _ {M : Type 1} {𝓤 : Ura M} (𝓛 : Logic 𝓤) where
 
   -- what a local holds is room
   room : (x : Local) → ent 𝓤 (sem 𝓛 (held x)) (H.room x.0 x.1 0)
-  room (τ, l, None) = id⊢ 𝓤 (H.room τ l 0)
-  room (τ, l, Some v) = 𝓛.laws.at_room τ l 0 v
+  room (τ, l, none) = id⊢ 𝓤 (H.room τ l 0)
+  room (τ, l, some v) = 𝓛.laws.at_room τ l 0 v
 
   freed : (Γ : List (Item 𝓤)) (L : List Local) (Δ : List (Item 𝓤)) (P : SProp 𝓤) → ent 𝓤 (⋆ 𝓛 (Γ ++ Δ)) P → ent 𝓤 (⋆ 𝓛 (Γ ++ stack L Δ)) (release 𝓤 H (places L) P)
   freed Γ [] Δ P h = h
