@@ -80,7 +80,7 @@ impl From<Refusal> for u8 {
     }
 }
 
-// The number of what a call that only does its work answers.
+// The number of what a call that only does its work answers. No `From`: neither `u8` nor `Result` is this crate's.
 pub fn outcome_number(outcome: Result<(), Refusal>) -> u8
     ensures { result ≡ outcome_number outcome }
 {

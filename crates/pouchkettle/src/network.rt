@@ -8,9 +8,8 @@ ghost use Rattle.judging.specs.OpenNwk.{open_nwk};
 ghost use Rattle.securing.specs.SecureNwk.{secure_nwk};
 ghost use Rattle.pouchkettle.specs.Told.{told_nwk, told_rows};
 
-use answer::{Refusal, Told};
+use answer::Told;
 use nib::{CounterRow, Nwk, Outgoing};
-use nwk::OpenedNwk;
 
 // What opening tells, how many counter rows are in use after it, and the number of the active key.
 #[repr(C)]
@@ -19,17 +18,6 @@ pub struct ToldNwk {
     pub told: Told,
     pub used: usize,
     pub active: u8,
-}
-
-// What opening answers, in numbers.
-fn told_nwk(opened: OpenedNwk) -> ToldNwk
-    ensures { result ≡ record { told = told opened.answer; used = opened.used; active = opened.active } }
-{
-    ToldNwk {
-        told: Told::from(opened.answer),
-        used: opened.used,
-        active: opened.active,
-    }
 }
 
 // Opens a frame in place. The first `used` counter rows are in use.
@@ -43,7 +31,12 @@ pub fn pouchkettle_open_nwk(
         × (rows.new ≡ (open_nwk nwk rows.old used frame.old).rows)
         × (frame.new ≡ (open_nwk nwk rows.old used frame.old).frame) }
 {
-    told_nwk(nwk::open_nwk(nwk, rows, used, frame))
+    let opened = nwk::open_nwk(nwk, rows, used, frame);
+    ToldNwk {
+        told: Told::from(opened.answer),
+        used: opened.used,
+        active: opened.active,
+    }
 }
 
 // Secures the plain frame into `out`; what stands there past the finished frame stays.

@@ -17,7 +17,7 @@ const BYTES: u8 = 16;
 // Bytes that become digits in one piece.
 const PIECE: usize = 512;
 
-// The digit for the lower four bits.
+// The digit for the lower four bits. A `{:02x}` for each byte is no plainer: it is a write for each byte, and a case may have thousands.
 fn digit(n: u8) -> u8 {
     let low = n % 16;
     if low < 10 { 48 + low } else { 87 + low }
