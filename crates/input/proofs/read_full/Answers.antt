@@ -1,5 +1,5 @@
 -- `input::read_full` meets its contract. Assumes nothing.
-use Rattle.std.proofs.Common.{◌≡◌, ℕ, ◌+◌, ◌-◌, ◌≤◌, List, ◌++◌, length, take, sym, ap, ◌∙◌, subst, arith, rules, length-take-le}
+use Rattle.std.proofs.Common.{◌≡◌, ℕ, ◌+◌, ◌-◌, ◌≤◌, List, ◌++◌, length, take, sym, ap, ◌∙◌, subst, rules, length-take-le}
 use Rattle.std.proofs.lemmas.List.{take-append-le}
 use Rattle.std.proofs.Math.Seq.{take-append-add}
 use Rattle.std.proofs.KnownBytes.{Consumes-trans}
@@ -18,8 +18,7 @@ pub loop-preserved : goal.loop-preserved
 loop-preserved g c =
     let l = c.loop in
     let r = c.in_ok-more in
-    let e = r.ensures in
-    (
+    let e = r.ensures in (
       search rules,
       search rules,
       subst (Consumes _ _) (sym (read-past l.count (length l.space - l.count) r.more l.space c.read.new.buf l.invariant.0 e.bound.0)) (Consumes-trans _ _ _ _ _ l.invariant.2 e.bytes.0),
