@@ -1,3 +1,4 @@
 pub mod Cases
 pub mod Reading
 pub mod ReadingLaws
+pub mod Texts

@@ -1,4 +1,7 @@
 // What is wrong with a field, or with the input, and how a person is told.
+ghost use Rattle.std.specs.Prelude.{Some};
+ghost use Rattle.reader.specs.Texts.{fault_text, bad_text};
+
 use std::fmt;
 
 #[derive(Clone, Copy, Debug, PartialEq, Eq)]
@@ -14,25 +17,26 @@ pub enum Fault {
 }
 
 impl fmt::Display for Fault {
+    ghost output = { λ fault. Some (fault_text fault) };
+
     fn fmt<W: fmt::Write>(&self, f: &mut fmt::Formatter<W>) -> fmt::Result {
         match self {
-            Fault::UnknownTag => write!(
-                f,
-                "unknown tag; a field begins with 0x01, 0x02, 0x03 or 0x10"
+            Fault::UnknownTag => f.write_str(
+                "unknown tag; a field begins with 0x01, 0x02, 0x03 or 0x10",
             ),
-            Fault::WrongLength => write!(
-                f,
-                "wrong length; a key row has 17 bytes, a counter row 13, an active number 1"
+            Fault::WrongLength => f.write_str(
+                "wrong length; a key row has 17 bytes, a counter row 13, an active number 1",
             ),
-            Fault::RepeatedKey => write!(f, "repeated row; there is a key of this number already"),
-            Fault::RepeatedRow => write!(
-                f,
-                "repeated row; there is a counter row of this key number and sender already"
+            Fault::RepeatedKey => f.write_str(
+                "repeated row; there is a key of this number already",
             ),
-            Fault::ThirdKey => write!(f, "third key; there is room for two"),
-            Fault::SurplusRow => write!(f, "65th counter row; there is room for 64"),
-            Fault::CutField => write!(f, "cut field; the input ends within it"),
-            Fault::InputTooLong => write!(f, "input over 65536 bytes; no field of it was taken"),
+            Fault::RepeatedRow => f.write_str(
+                "repeated row; there is a counter row of this key number and sender already",
+            ),
+            Fault::ThirdKey => f.write_str("third key; there is room for two"),
+            Fault::SurplusRow => f.write_str("65th counter row; there is room for 64"),
+            Fault::CutField => f.write_str("cut field; the input ends within it"),
+            Fault::InputTooLong => f.write_str("input over 65536 bytes; no field of it was taken"),
         }
     }
 }
@@ -46,6 +50,8 @@ pub struct BadField {
 }
 
 impl fmt::Display for BadField {
+    ghost output = { λ bad. Some (bad_text bad) };
+
     fn fmt<W: fmt::Write>(&self, f: &mut fmt::Formatter<W>) -> fmt::Result {
         let BadField { field, at, fault } = *self;
         write!(f, "bad: field {field} at byte offset {at}: {fault}")

@@ -9,7 +9,7 @@ use by_value::CounterTable;
 use fields::field_at;
 use nib::{CounterRow, NetworkKeys, Nwk, Standing};
 
-// The gateway, the place in the input, and how many fields were read and frames presented.
+// The gateway, the place in the input, and how many fields were read and frames presented. No Debug and no PartialEq: it holds keys.
 #[derive(Clone, Copy)]
 pub struct Reader {
     pub nwk: Nwk,
@@ -19,14 +19,14 @@ pub struct Reader {
     pub frames: u64,
 }
 
-#[derive(Clone, Copy)]
+#[derive(Clone, Copy, Debug, PartialEq, Eq)]
 pub struct Line {
     pub frame: u64,
     pub told: Told,
 }
 
 // What a field gives: nothing to say, a line, or the end of the input.
-#[derive(Clone, Copy)]
+#[derive(Clone, Copy, Debug, PartialEq, Eq)]
 pub enum Event {
     Quiet,
     Tells(Line),

@@ -2,6 +2,7 @@
 use crate::asked::Case;
 use crate::classes::nwk_class;
 use crate::gateway::{keys_of, table_of, tell_table};
+use crate::parts::{BLANK, lay};
 use crate::telling::{Line, NUMBERS, ROWS};
 use answer::Refusal;
 use by_value::CounterTable;
@@ -19,11 +20,11 @@ fn nwk_of(case: &Case<'_>) -> Nwk {
 
 pub(crate) fn open(case: &Case<'_>, space: &mut [u8], line: Line<'_>) -> io::Result<()> {
     let len = case.first.len();
+    lay(case.first, space);
     if space.len() < len {
         return line.text("bad\n");
     }
     let frame = &mut space[..len];
-    frame.copy_from_slice(case.first);
     let opened = nwk_by_value::open_with(nwk_of(case), table_of(case), frame);
     line.answer(opened.answer, nwk_class)?;
     line.number(opened.active as u64)?;
@@ -32,11 +33,11 @@ pub(crate) fn open(case: &Case<'_>, space: &mut [u8], line: Line<'_>) -> io::Res
 }
 
 pub(crate) fn secure(case: &Case<'_>, space: &mut [u8], line: Line<'_>) -> io::Result<()> {
+    space.fill(BLANK);
     if space.len() < case.head.room {
         return line.text("bad\n");
     }
     let out = &mut space[..case.head.room];
-    out.fill(0xee);
     let outgoing = nib::sending(case.head.outgoing);
     let secured = nwk_by_value::secure_with(nwk_of(case), outgoing, case.first, out);
     line.answer(secured.answer, nwk_class)?;

@@ -1,5 +1,8 @@
 // Parts of the input. Each of these takes any place: where the string ends before, there are zeros.
 
+// Every byte of the space before a call writes there, so that what was not written shows.
+pub(crate) const BLANK: u8 = 0xee;
+
 // The N bytes at a place; zeros alone where the string has fewer.
 pub(crate) fn bytes_at<const N: usize>(s: &[u8], at: usize) -> [u8; N] {
     match s.get(at..) {
@@ -23,4 +26,11 @@ pub(crate) fn eight(s: &[u8], at: usize) -> u64 {
 // The first n bytes, or all where there are fewer; and those after them.
 pub(crate) fn parted(s: &[u8], n: usize) -> (&[u8], &[u8]) {
     s.split_at(n.min(s.len()))
+}
+
+// A copy of s at the start of the space, as much of it as there is space for.
+pub(crate) fn lay(s: &[u8], space: &mut [u8]) {
+    for (to, from) in space.iter_mut().zip(s) {
+        *to = *from;
+    }
 }

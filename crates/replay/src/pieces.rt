@@ -3,7 +3,7 @@ ghost use Rattle.std.specs.Prelude.{◌≤◌, length};
 
 use crate::asked::Case;
 use crate::classes::nwk_class;
-use crate::parts::bytes_at;
+use crate::parts::{BLANK, bytes_at, lay};
 use crate::telling::{Line, NUMBERS, ROWS};
 use answer::Refusal;
 use auxiliary_header::{Auxiliary, KeyUsed};
@@ -105,11 +105,11 @@ pub(crate) fn read_auxiliary(case: &Case<'_>, line: Line<'_>) -> io::Result<()> 
 
 pub(crate) fn write_auxiliary(case: &Case<'_>, space: &mut [u8], line: Line<'_>) -> io::Result<()> {
     let head = case.head;
+    space.fill(BLANK);
     if space.len() < head.room {
         return line.text("bad\n");
     }
     let out = &mut space[..head.room];
-    out.fill(0xee);
     let control = Control { byte: head.control };
     let written = auxiliary_header::write(out, 0, control, head.counter, head.device, head.number);
     tell_outcome(written, line)?;
@@ -136,10 +136,12 @@ fn read_under(s: &[u8]) -> Under<'_> {
 fn laid(a: &[u8], b: &[u8], space: &mut [u8]) -> usize
     ensures { result ≤ length space.new }
 {
-    for (to, from) in space.iter_mut().zip(a.iter().chain(b)) {
-        *to = *from;
+    lay(a, space);
+    if space.len() < a.len() {
+        return 0;
     }
-    if space.len() < a.len() || space.len() - a.len() < b.len() {
+    lay(b, &mut space[a.len()..]);
+    if space.len() - a.len() < b.len() {
         return 0;
     }
     a.len() + b.len()
