@@ -8,7 +8,7 @@ use Rattle.aps.specs.OpenAps.{open_aps}
 use Rattle.order.proofs.AnyOrder.{aps-in-any-order}
 use Rattle.order.specs.Frames.{leaves, says}
 use Rattle.order.specs.Aps as aps
-use Rattle.gateway_order.specs.ApsCalls.{Call, called, Calls, None, then}
+use Rattle.gateway_order.specs.ApsCalls.{Call, called, Calls, none, then}
 
 -- a call leaves what the definition says
 promised-is : (g : aps.Gateway) (b : List ℕ) (c : Call g b) → record { answer = c.result; frame = c.last.1.1.0; pairs = c.last.1.0 } ≡ open_aps g.aps g.pairs b
@@ -27,7 +27,7 @@ called_is d i c =
 -- so do calls one after another
 pub calls_are : {d e : aps.ApsDesk} {p : List ℕ} → Calls d p e → e ≡ aps.opened d p
 unfolding open_all
-calls_are None = refl
+calls_are none = refl
 calls_are {d} (then i p c rest) = calls_are rest ∙ ap (λ (x : aps.ApsDesk). aps.opened x p) (called_is d i c)
 
 pub aps-code-in-any-order : (d e e' : aps.ApsDesk) (p q : List ℕ)
@@ -58,5 +58,5 @@ call-of g b =
 
 pub calls-exist : (d : aps.ApsDesk) (p : List ℕ) → Calls d p (aps.opened d p)
 unfolding open_all open_at call-of
-calls-exist d [] = None
+calls-exist d [] = none
 calls-exist d (i ∷ p) = then i p (call-of d.state (d.buffer i)) (calls-exist (open_at aps.answer aps.after leaves says d i) p)

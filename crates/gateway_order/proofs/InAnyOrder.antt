@@ -11,7 +11,7 @@ use Rattle.judging.specs.OpenNwk.{open_nwk}
 use Rattle.order.proofs.AnyOrder.{nwk-in-any-order}
 use Rattle.order.specs.Frames.{leaves, says}
 use Rattle.order.specs.Nwk as nwk
-use Rattle.gateway_order.specs.Calls.{Call, called, Calls, None, then}
+use Rattle.gateway_order.specs.Calls.{Call, called, Calls, none, then}
 
 -- a call leaves what the definition says
 promised-is : (g : nwk.Gateway) (b : List ℕ) (c : Call g b) → opened c.result c.last.1.0 c.last.1.1.1.0 ≡ open_nwk g.nwk g.rows g.used b
@@ -34,7 +34,7 @@ called_is d i c =
 -- so do calls one after another
 pub calls_are : {d e : nwk.NwkDesk} {p : List ℕ} → Calls d p e → e ≡ nwk.opened d p
 unfolding open_all
-calls_are None = refl
+calls_are none = refl
 calls_are {d} (then i p c rest) = calls_are rest ∙ ap (λ (x : nwk.NwkDesk). nwk.opened x p) (called_is d i c)
 
 pub code-in-any-order : (d e e' : nwk.NwkDesk) (p q : List ℕ)
@@ -69,5 +69,5 @@ call-of g b =
 
 pub calls-exist : (d : nwk.NwkDesk) (p : List ℕ) → Calls d p (nwk.opened d p)
 unfolding open_all open_at call-of
-calls-exist d [] = None
+calls-exist d [] = none
 calls-exist d (i ∷ p) = then i p (call-of d.state (d.buffer i)) (calls-exist (open_at nwk.answer nwk.after leaves says d i) p)

@@ -31,5 +31,5 @@ called d i c = record {
 
 -- calls for the frames in the listed buffers, in the list's order, lead from one desk to another
 pub data Calls : ApsDesk → List ℕ → ApsDesk → Type 0 where
-  None : {d : ApsDesk} → Calls d [] d
+  none : {d : ApsDesk} → Calls d [] d
   then : {d e : ApsDesk} (i : ℕ) (p : List ℕ) (c : Call d.state (d.buffer i)) → Calls (called d i c) p e → Calls d (i ∷ p) e

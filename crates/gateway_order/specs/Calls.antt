@@ -41,5 +41,5 @@ called d i c = record {
 
 -- calls for the frames in the listed buffers, in the list's order, lead from one desk to another
 pub data Calls : NwkDesk → List ℕ → NwkDesk → Type 0 where
-  None : {d : NwkDesk} → Calls d [] d
+  none : {d : NwkDesk} → Calls d [] d
   then : {d e : NwkDesk} (i : ℕ) (p : List ℕ) (c : Call d.state (d.buffer i)) → Calls (called d i c) p e → Calls d (i ∷ p) e
