@@ -10,6 +10,7 @@ use answer::{Refusal, Told};
 use aps::Aps;
 use by_value::CounterTable;
 use control::{Control, KeyIdentifier};
+use input::StandardInput;
 use mmo::Hashing;
 use nib::{NetworkKeys, Nwk};
 use std::io;
@@ -236,8 +237,7 @@ fn limits(rt: &HostRuntime) -> io::Result<()> {
 // What cannot be read stays zero.
 fn read_frames(rt: &HostRuntime) -> [u8; ALL] {
     let mut frames = [0u8; ALL];
-    let read = input::read_full(&mut rt.stdin(), &mut frames);
-    read.is_ok();
+    input::read_full(&mut StandardInput { rt }, &mut frames).is_ok();
     frames
 }
 
@@ -256,8 +256,7 @@ fn print_cases(rt: &HostRuntime, frames: &[u8; ALL]) -> io::Result<()> {
     limits(rt)
 }
 
-// Writing that fails is not told: the lines are compared.
+// A write that fails ends the run and is not told: the lines are compared.
 fn main(rt: HostRuntime) {
-    let printed = print_cases(&rt, &read_frames(&rt));
-    printed.is_ok();
+    print_cases(&rt, &read_frames(&rt)).is_ok();
 }

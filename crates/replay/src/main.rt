@@ -13,24 +13,12 @@ mod pieces;
 mod telling;
 
 use asked::{Call, Case, Head};
-use input::read_full;
-use std::io::{self, Read};
+use input::{StandardInput, read_full};
+use std::io;
 use telling::Line;
 
 // No run takes more cases.
 const MOST: usize = 1000000;
-
-// Standard input. A read that fails ends it.
-#[derive(Clone, Copy)]
-struct Input<'a> {
-    rt: &'a HostRuntime,
-}
-
-impl Read for Input<'_> {
-    fn read(&mut self, buf: &mut [u8]) -> io::Result<usize> {
-        Ok(self.rt.stdin().read(buf).unwrap_or(0))
-    }
-}
 
 fn run(case: &Case<'_>, space: &mut [u8], line: Line<'_>) -> io::Result<()> {
     let Ok(call) = Call::try_from(case.head.call) else {
@@ -63,7 +51,7 @@ fn run(case: &Case<'_>, space: &mut [u8], line: Line<'_>) -> io::Result<()> {
 // Reads a case and runs it. Whether there may be another. A case that is cut, or has more in it than is taken: the line `bad`, and
 // reading stops.
 fn step(rt: &HostRuntime, body: &mut [u8], space: &mut [u8]) -> io::Result<bool> {
-    let mut input = Input { rt };
+    let mut input = StandardInput { rt };
     let mut bytes = [0u8; 44];
     let n = read_full(&mut input, &mut bytes)?;
     if n == 0 {
@@ -96,7 +84,7 @@ fn replay(rt: &HostRuntime, body: &mut [u8], space: &mut [u8]) -> io::Result<()>
     Ok(())
 }
 
-// Writing that fails is not told: what it prints is compared.
+// A write that fails ends the run and is not told: what it prints is compared.
 fn main(rt: HostRuntime) {
     let mut body = [0u8; 131072];
     let mut space = [0u8; 4096];
