@@ -1,4 +1,5 @@
 // Searches for a device's row: each takes the first that matches. A count above 16 finds in the 16 rows that there are.
+// Each is one closure; a function that is handed the test would carry its statement, and be longer than the two.
 ghost use Rattle.std.specs.Prelude.{◌≡◌, length, position, take};
 ghost use Rattle.cells.specs.Rows.{is_row};
 ghost use Rattle.aib.specs.Pairs.{pair_rows, may_use, pair_found, usable_found};
@@ -27,7 +28,7 @@ pub(crate) fn usable_place(pairs: &Pairs, device: u64) -> Option<usize>
     in_use(pairs).iter().position(|row| row.sends_to(device))
 }
 
-// The row by which a frame from the device is opened.
+// The row by which a frame from the device is opened. `sixteen` says again what the type of the rows does: callers take it from here.
 pub fn find(pairs: &Pairs, device: u64) -> Option<PairRow>
     ensures row { result ≡ pair_found pairs.now device }
     ensures sixteen { length pairs.now.rows ≡ 16 }

@@ -3,7 +3,7 @@ ghost use Rattle.std.specs.Prelude.{◌≡◌, ◌+◌, ◌≤◌, ◌<◌, ◌^
 ghost use Rattle.std.proofs.lemmas.List.Edits.{sets};
 ghost use Rattle.laws.specs.Numbers.{field};
 
-// The number in the `count` octets of s from `at` on.
+// The number in the `count` octets of s from `at` on. By hand, since std's `from_le_bytes` takes a fixed count.
 pub fn number_at(s: &[u8], at: usize, count: usize) -> u64
     requires { (at + count ≤ length s.now) × (count ≤ 8) }
     ensures { (result ≡ field s.now at count) × (result < 256 ^ count) }

@@ -24,7 +24,7 @@ fn word_at(s: &[u8], i: usize) -> u32
     joined(s[i], s[i + 1], s[i + 2], s[i + 3])
 }
 
-// The same near the end of s, zeros past it.
+// The same near the end of s, zeros past it. Whole blocks have a form of their own: their path looks for no end.
 fn word_near(s: &[u8], i: usize) -> u32
     requires { i ≤ 12 }
     ensures { bytes result ≡ listed 4 i s.now }
@@ -65,13 +65,21 @@ pub(crate) fn padded_block(s: &[u8]) -> State
     whole_block(s)
 }
 
+// A number in two octets, the high one first.
+fn two_octets(n: usize) -> [u8; 2]
+    ensures { result ≡ be16 n }
+{
+    ((n % 65536) as u16).to_be_bytes()
+}
+
 // A length in two octets, and fourteen octets of a.
 fn length_then(n: usize, a: &[u8]) -> State
     requires { 14 ≤ length a.now }
     ensures { block_of result ≡ be16 n ++ listed 14 0 a.now }
 {
+    let [high, low] = two_octets(n);
     State {
-        a: joined((n / 256 % 256) as u8, (n % 256) as u8, a[0], a[1]),
+        a: joined(high, low, a[0], a[1]),
         b: word_at(a, 2),
         c: word_at(a, 6),
         d: word_at(a, 10),
@@ -94,11 +102,12 @@ pub(crate) fn length_block(a: &[u8]) -> State
 pub(crate) fn make_block(flags: u8, nonce: [u8; 13], k: usize) -> State
     ensures { block_of result ≡ block flags nonce k }
 {
+    let [high, low] = two_octets(k);
     State {
         a: joined(flags, nonce[0], nonce[1], nonce[2]),
         b: joined(nonce[3], nonce[4], nonce[5], nonce[6]),
         c: joined(nonce[7], nonce[8], nonce[9], nonce[10]),
-        d: joined(nonce[11], nonce[12], (k / 256 % 256) as u8, (k % 256) as u8),
+        d: joined(nonce[11], nonce[12], high, low),
     }
 }
 

@@ -101,7 +101,7 @@ pub fn hash_add_with(state: Hashing, part: &[u8], tables: CipherTables) -> Resul
     Ok(followed(state, part, tables))
 }
 
-// The same, with the tables named here: what may not change holds both forms (docs/PROMISES.md, mmo). Where the part is refused, the state that it was to follow still stands.
+// The same, with the tables named here (docs/PROMISES.md has both forms). A refused part leaves the state that it was to follow.
 pub fn hash_add(state: Hashing, part: &[u8]) -> Result<Hashing, Refusal>
     ensures { result ≡ giving (hashing (state.total + length part.now)) (added state part.now) }
 {

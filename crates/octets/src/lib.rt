@@ -8,7 +8,7 @@ ghost use Rattle.laws.specs.Octets.{◌⊕◌, same};
 pub fn xor_into(dst: &mut [u8], src: &[u8])
     ensures { dst.new ≡ dst.old ⊕ src.now }
 {
-    let n = dst.len().min(src.len());
+    let n = src.len().min(dst.len());
     for j in 0..n {
         dst[j] ^= src[j];
     }
