@@ -133,7 +133,7 @@ pub fn encipher(table: RoundTable, keys: &[u32; 44], block: [u8; 16]) -> [u8; 16
     block_of(encipher_state(table, keys, state_of(block)))
 }
 
-// One block, with nothing asked of the caller.
+// One block, with the table named here (docs/PROMISES.md has both forms).
 pub fn encrypt(keys: &[u32; 44], block: [u8; 16]) -> [u8; 16]
     ensures { result ≡ cipher (key_bytes keys.now) block }
 {

@@ -77,7 +77,7 @@ pub fn expand_with(table: SubstitutionTable, key: [u8; 16]) -> [u32; 44]
     w
 }
 
-// The same, with nothing asked of the caller.
+// The same, with the table named here (docs/PROMISES.md has both forms).
 pub fn expand(key: [u8; 16]) -> [u32; 44]
     ensures { key_bytes result ≡ key_expansion key }
 {

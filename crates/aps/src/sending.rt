@@ -22,8 +22,8 @@ const TRANSPORT_KEY: u8 = 0x05;
 // What securing adds to a frame: control, counter and sender (13 bytes), and the tag (4).
 pub(crate) const ADDED: usize = 17;
 
-// 0 where the frame has no such byte. `ccm` has this line too: one function of `octets` for both is no plainer, being a contract and two
-// edits for one line.
+// 0 where the frame has no such byte. `ccm` and `replay` have this line too: one function of `octets` for them is no plainer, being a
+// contract and two edits for one line.
 fn octet_at(plain: &[u8], at: usize) -> u8
     ensures { result ≡ get_or plain.now at 0 }
 {

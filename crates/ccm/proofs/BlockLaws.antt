@@ -6,8 +6,8 @@ use native.Mathlib.Omega.{arith}
 use native.Mathlib.Decide.{dec_le}
 use native.Mathlib.Nat.{le_of_suc-le-suc}
 use lib.Bits.{bit_xor, xor_zero_r}
-use lib.ListN.{length, take, drop, get_or, replicate, drop_of_length-le, get_or-eq_default}
-use lib.Seq.{drop-cons, get_or-drop}
+use lib.ListN.{length, take, drop, get_or, drop_of_length-le, get_or-eq_default}
+use lib.Seq.{drop-cons}
 use Rattle.laws.specs.Octets.{◌⊕◌}
 use Rattle.laws.specs.XorLaws.{xor-length, xor-nil, nil-xor, xor-cons, xor-append}
 use Rattle.laws.specs.Parts.{listed}
@@ -31,25 +31,6 @@ pub listed-part : (n i : ℕ) (x : List ℕ) → i + n ≤ length x → listed n
 listed-part zero i x h = refl
 listed-part (suc n) i x h =
     ap (λ (r : List ℕ). get_or x i 0 ∷ r) (listed-part n (suc i) x (omega arith)) ∙ sym (ap (take (suc n)) (drop-cons x i 0 (omega arith)))
-
-zeros : (n i : ℕ) → get_or {A = ℕ} (replicate n 0) i 0 ≡ 0
-zeros zero i = refl
-zeros (suc n) zero = refl
-zeros (suc n) (suc i) = zeros n i
-
--- a string, and zeros after it
-past : (a z : List ℕ) (i : ℕ) → ((j : ℕ) → get_or z j 0 ≡ 0) → get_or (a ++ z) i 0 ≡ get_or a i 0
-past [] z i h = h i
-past (b ∷ a) z zero h = refl
-past (b ∷ a) z (suc i) h = past a z i h
-
--- a copied to the front of n zeros
-pub listed-copied : (k i n : ℕ) (a : List ℕ) → listed k i (a ++ drop (length a) (replicate n 0)) ≡ listed k i a
-listed-copied zero i n a = refl
-listed-copied (suc k) i n a =
-    ap₂ (λ (x : ℕ) (r : List ℕ). x ∷ r)
-    (past a (drop (length a) (replicate n 0)) i (λ j. get_or-drop (length a) (replicate n 0) j 0 ∙ zeros n (length a + j)))
-    (listed-copied k (suc i) n a)
 
 -- a block k XORed into the front of s, and put back
 pub xor-front : (s k : List ℕ) → length k ≡ 16 → 16 ≤ length s → (let t = listed 16 0 s ⊕ k in t ++ drop (length t) s) ≡ s ⊕ k

@@ -7,25 +7,17 @@ ghost use Rattle.words.specs.Words.{bytes, block_of};
 ghost use Rattle.ccm.specs.Ccm.{block};
 
 use octets::xor_into;
-use words::{State, added, block_of, joined};
+use words::{State, added, block_of, joined, state_of};
 
-// Octet i of s, or 0 past its end.
+// Octet i of s, or 0 past its end. (`aps` has this line too, and says why.)
 fn octet_at(s: &[u8], i: usize) -> u8
     ensures { result ≡ get_or s.now i 0 }
 {
     s.get(i).copied().unwrap_or(0)
 }
 
-// Four octets of s from i on.
+// Four octets of s from i on, zeros past its end.
 fn word_at(s: &[u8], i: usize) -> u32
-    requires { i + 4 ≤ length s.now }
-    ensures { bytes result ≡ listed 4 i s.now }
-{
-    joined(s[i], s[i + 1], s[i + 2], s[i + 3])
-}
-
-// The same near the end of s, zeros past it. Whole blocks have a form of their own: their path looks for no end.
-fn word_near(s: &[u8], i: usize) -> u32
     requires { i ≤ 12 }
     ensures { bytes result ≡ listed 4 i s.now }
 {
@@ -37,32 +29,19 @@ fn word_near(s: &[u8], i: usize) -> u32
     )
 }
 
-// The first block of s, which is whole.
-fn whole_block(s: &[u8]) -> State
-    requires { 16 ≤ length s.now }
-    ensures { block_of result ≡ listed 16 0 s.now }
-{
-    State {
-        a: word_at(s, 0),
-        b: word_at(s, 4),
-        c: word_at(s, 8),
-        d: word_at(s, 12),
-    }
-}
-
 // The first block of s, filled up with zeros where it is not whole.
-pub(crate) fn padded_block(s: &[u8]) -> State
+pub(crate) fn first_block(s: &[u8]) -> State
     ensures { block_of result ≡ listed 16 0 s.now }
 {
-    if s.len() < 16 {
-        return State {
-            a: word_near(s, 0),
-            b: word_near(s, 4),
-            c: word_near(s, 8),
-            d: word_near(s, 12),
-        };
+    match s.first_chunk::<16>() {
+        Some(block) => state_of(*block),
+        None => State {
+            a: word_at(s, 0),
+            b: word_at(s, 4),
+            c: word_at(s, 8),
+            d: word_at(s, 12),
+        },
     }
-    whole_block(s)
 }
 
 // A number in two octets, the high one first.
@@ -72,30 +51,17 @@ fn two_octets(n: usize) -> [u8; 2]
     ((n % 65536) as u16).to_be_bytes()
 }
 
-// A length in two octets, and fourteen octets of a.
-fn length_then(n: usize, a: &[u8]) -> State
-    requires { 14 ≤ length a.now }
-    ensures { block_of result ≡ be16 n ++ listed 14 0 a.now }
-{
-    let [high, low] = two_octets(n);
-    State {
-        a: joined(high, low, a[0], a[1]),
-        b: word_at(a, 2),
-        c: word_at(a, 6),
-        d: word_at(a, 10),
-    }
-}
-
 // The first block of associated data a: their length in two octets, then the data, and zeros where they are short.
 pub(crate) fn length_block(a: &[u8]) -> State
     ensures { block_of result ≡ be16 (length a.now) ++ listed 14 0 a.now }
 {
-    if a.len() < 14 {
-        let mut t = [0u8; 14];
-        octets::copy(a, &mut t);
-        return length_then(a.len(), &t);
+    let [high, low] = two_octets(a.len());
+    State {
+        a: joined(high, low, octet_at(a, 0), octet_at(a, 1)),
+        b: word_at(a, 2),
+        c: word_at(a, 6),
+        d: word_at(a, 10),
     }
-    length_then(a.len(), a)
 }
 
 // The block of flags, nonce and a two-byte number: B_0 and A_i.
@@ -111,15 +77,6 @@ pub(crate) fn make_block(flags: u8, nonce: [u8; 13], k: usize) -> State
     }
 }
 
-// k XORed into the first block of s, which is whole.
-fn xor_whole(s: &mut [u8], k: State)
-    requires { 16 ≤ length s.old }
-    ensures { s.new ≡ s.old ⊕ block_of k }
-{
-    let t = block_of(added(whole_block(s), k));
-    octets::copy(&t, s);
-}
-
 // k XORed into the first block of s, or into as much as there is of it.
 pub(crate) fn xor_block(s: &mut [u8], k: State)
     ensures { s.new ≡ s.old ⊕ block_of k }
@@ -128,6 +85,7 @@ pub(crate) fn xor_block(s: &mut [u8], k: State)
         let t = block_of(k);
         xor_into(s, &t);
     } else {
-        xor_whole(s, k);
+        let t = block_of(added(first_block(s), k));
+        octets::copy(&t, s);
     }
 }

@@ -21,6 +21,7 @@ impl Cipher<'_> {
     pub(crate) fn count_through(&self, s: &mut [u8])
         ensures { s.new ≡ counted (cipher_words self.now.keys.now) self.now.nonce 1 s.old }
     {
+        // By places: std says nothing of what is written through `chunks_mut`.
         for i in 0..s.len().div_ceil(16) {
             let k = self.key_block(i + 1);
             xor_block(&mut s[16 * i..], k);

@@ -6,7 +6,7 @@ ghost use Rattle.words.specs.Words.{block_of};
 ghost use Rattle.aes.specs.Words.{cipher_words};
 ghost use Rattle.ccm.specs.Ccm.{chain, head};
 
-use crate::blocks::{length_block, make_block, padded_block};
+use crate::blocks::{first_block, length_block, make_block};
 use crate::cipher::Cipher;
 use words::{State, added};
 
@@ -15,7 +15,7 @@ impl Cipher<'_> {
     fn mac_block(&self, x: State, s: &[u8]) -> State
         ensures { block_of result ≡ cipher_words self.now.keys.now (block_of x ⊕ s.now) }
     {
-        aes::encipher_state(self.table, self.keys, added(x, padded_block(s)))
+        aes::encipher_state(self.table, self.keys, added(x, first_block(s)))
     }
 
     // From x over the blocks of s, the last filled up with zeros.

@@ -28,7 +28,7 @@ pub enum Who {
     Claims(Claim),
 }
 
-// The key number that a frame names, 0 where it names none.
+// The key number that a frame names; 0 where it names none, as docs/PROMISES.md has it (an NWK claim always names one).
 pub fn number_of(key: KeyUsed) -> u8
     ensures { result ≡ number_of key }
 {
@@ -98,7 +98,7 @@ pub fn nwk_who(keys: NetworkKeys, frame: &[u8]) -> Result<Who, Refusal>
     Ok(claimed(a, sender, start))
 }
 
-// Document 01, opening APS, up to the device.
+// Document 01, opening APS, up to the device. It begins as NWK does, over a header of another type: a trait for the two is no plainer.
 #[tactic(auto, using(crate::proofs::Within::aps_within), unfolding(crate::specs::Claims::aps_who))]
 pub fn aps_who(frame: &[u8]) -> Result<Who, Refusal>
     ensures { result ≡ aps_who frame.now }

@@ -69,6 +69,7 @@ pub fn forget(rows: &mut [CounterRow], used: usize, number: u8) -> Result<usize,
     if capacity(rows.len()) < used {
         return Err(Refusal::Unsupported);
     }
+    // By places, since each turn reads one row and writes another.
     let empty = empty_row();
     let mut kept: usize = 0;
     for i in 0..used {

@@ -95,6 +95,7 @@ fn judged_fresh(keys: NetworkKeys, claim: Claim, room: bool, frame: &mut [u8]) -
     if frame.len() - claim.payload < 4 {
         return Err(Refusal::Cut);
     }
+    // `aps` fills one alike: claims know no envelope, and a crate above both would hold these lines alone.
     let envelope = Envelope {
         key: nib::key_under(keys, claims::number_of(claim.key)),
         sender: claim.sender,

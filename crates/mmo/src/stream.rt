@@ -13,9 +13,9 @@ use tables::CipherTables;
 const LIMIT: usize = 536870911;
 
 // The value over the whole blocks so far, the bytes that wait, and how many there were in all. Of the tail the first total % 16 bytes
-// wait, so that no state contradicts itself.
+// wait, so that no state contradicts itself. No Debug and no PartialEq: a keyed hash begins with its key.
 #[repr(C)]
-#[derive(Clone, Copy, Debug, PartialEq, Eq)]
+#[derive(Clone, Copy)]
 pub struct Hashing {
     pub value: [u8; 16],
     pub tail: [u8; 16],
@@ -119,7 +119,7 @@ pub fn hash_finish_with(state: Hashing, tables: CipherTables) -> Result<[u8; 16]
     Ok(run(state.value, last, tables))
 }
 
-// The same, with the tables named here.
+// The same, with the tables named here (docs/PROMISES.md has both forms).
 pub fn hash_finish(state: Hashing) -> Result<[u8; 16], Refusal>
     ensures { result ≡ giving (hashing state.total) (finished state) }
 {

@@ -36,7 +36,7 @@ pub fn key_of(keys: NetworkKeys, number: u8) -> Option<NetworkKey>
         .copied()
 }
 
-// The key of that number; zeros where there is none.
+// The key of that number; zeros where there is none, for callers that have found a row of it before: they have no way to refuse.
 pub fn key_under(keys: NetworkKeys, number: u8) -> [u8; 16]
     ensures { result ≡ key_under keys number }
 {

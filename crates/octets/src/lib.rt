@@ -9,6 +9,7 @@ pub fn xor_into(dst: &mut [u8], src: &[u8])
     ensures { dst.new ≡ dst.old ⊕ src.now }
 {
     let n = src.len().min(dst.len());
+    // By places: of what is written through `iter_mut` under `zip` std says nothing, and under `enumerate` it is no plainer.
     for j in 0..n {
         dst[j] ^= src[j];
     }

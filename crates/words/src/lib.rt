@@ -5,7 +5,8 @@ ghost use Rattle.std.specs.Prelude.{◌≡◌, [], ◌∷◌};
 ghost use Rattle.laws.specs.Octets.{◌⊕◌};
 ghost use Rattle.words.specs.Words.{bytes, block_of};
 
-#[derive(Clone, Copy, Debug, PartialEq, Eq)]
+// No Debug and no PartialEq: round keys stand in such states.
+#[derive(Clone, Copy)]
 pub struct State {
     pub a: u32,
     pub b: u32,
