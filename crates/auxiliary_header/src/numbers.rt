@@ -3,7 +3,8 @@ ghost use Rattle.std.specs.Prelude.{◌≡◌, ◌+◌, ◌≤◌, ◌<◌, ◌^
 ghost use Rattle.std.proofs.lemmas.List.Edits.{sets};
 ghost use Rattle.laws.specs.Numbers.{field};
 
-// The number in the `count` octets of s from `at` on. By hand, since std's `from_le_bytes` takes a fixed count.
+// The number in the `count` octets of s from `at` on. By hand, since std's `from_le_bytes` takes a fixed count; and by places, since the
+// bound speaks of how many octets are done: over a reversed iterator it is no plainer.
 pub fn number_at(s: &[u8], at: usize, count: usize) -> u64
     requires { (at + count ≤ length s.now) × (count ≤ 8) }
     ensures { (result ≡ field s.now at count) × (result < 256 ^ count) }
