@@ -1,4 +1,6 @@
-// Parts of the input. Each of these takes any place: where the string ends before, there are zeros.
+// Parts of the input, each at any place: where the string ends before, there are zeros. And the space that a call writes to.
+
+ghost use Rattle.std.specs.Prelude.{OnSome, ◌≤◌, length};
 
 // Every byte of the space before a call writes there, so that what was not written shows.
 const BLANK: u8 = 0xee;
@@ -29,14 +31,16 @@ pub(crate) fn parted(s: &[u8], n: usize) -> (&[u8], &[u8]) {
 }
 
 // A copy of s at the start of the space, as much of it as there is space for.
-pub(crate) fn lay(s: &[u8], space: &mut [u8]) {
+fn lay(s: &[u8], space: &mut [u8]) {
     for (to, from) in space.iter_mut().zip(s) {
         *to = *from;
     }
 }
 
 // The string laid into the space, and the bytes that it then takes up; none where there is no space for it.
-pub(crate) fn laid<'a>(s: &[u8], space: &'a mut [u8]) -> Option<&'a mut [u8]> {
+pub(crate) fn laid<'a>(s: &[u8], space: &'a mut [u8]) -> Option<&'a mut [u8]>
+    ensures { OnSome result (length s.now ≤ length space.old) }
+{
     lay(s, space);
     if space.len() < s.len() {
         return None;

@@ -3,7 +3,7 @@ ghost use Rattle.std.specs.Prelude.{IfSome, ◌≤◌, length};
 
 use crate::asked::Case;
 use crate::classes::nwk_class;
-use crate::parts::{blanked, bytes_at, lay};
+use crate::parts::{blanked, bytes_at, laid};
 use crate::telling::{Line, NUMBERS, ROWS};
 use answer::Refusal;
 use auxiliary_header::{Auxiliary, KeyUsed};
@@ -131,17 +131,12 @@ fn read_under(s: &[u8]) -> Under<'_> {
 }
 
 // Two strings laid into the space, one after the other: where the second ends; none where there is no space for both.
+// `seal` and `unseal` then take 0 for the end: the cipher gets too few bytes, and refuses.
 fn both_laid(a: &[u8], b: &[u8], space: &mut [u8]) -> Option<usize>
     ensures { IfSome result (λ end. end ≤ length space.new) }
 {
-    lay(a, space);
-    if space.len() < a.len() {
-        return None;
-    }
-    lay(b, &mut space[a.len()..]);
-    if space.len() - a.len() < b.len() {
-        return None;
-    }
+    laid(a, space)?;
+    laid(b, &mut space[a.len()..])?;
     Some(a.len() + b.len())
 }
 
