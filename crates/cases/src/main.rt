@@ -80,6 +80,15 @@ fn gateway(active: u8, key_number: u8) -> Nwk {
     }
 }
 
+// A copy of a frame at the start of the space.
+fn copied<'a>(sent: &[u8], space: &'a mut [u8; 27]) -> &'a mut [u8]
+    requires { length sent.now ≤ 27 }
+{
+    let frame = &mut space[..sent.len()];
+    frame.copy_from_slice(sent);
+    frame
+}
+
 // Opens a copy of a frame with `used` rows, of which the first holds `held` for the logger. Prints answer, start, length, the first row's
 // counter and the active number.
 fn opened(
@@ -93,8 +102,7 @@ fn opened(
     requires { length sent.now ≤ 27 }
 {
     let mut space = [0u8; 27];
-    let frame = &mut space[..sent.len()];
-    frame.copy_from_slice(sent);
+    let frame = copied(sent, &mut space);
     let key = nwk.keys.rows[0];
     let heard = nib::recorded_row(key.number, LOGGER, held);
     let table = CounterTable {
@@ -115,8 +123,7 @@ fn opened_aps(rt: &HostRuntime, name: &str, sent: &[u8]) -> io::Result<()>
     requires { length sent.now ≤ 27 }
 {
     let mut space = [0u8; 27];
-    let frame = &mut space[..sent.len()];
-    frame.copy_from_slice(sent);
+    let frame = copied(sent, &mut space);
     let row = PairRow {
         device: LOGGER,
         attribute: aib::VERIFIED,
@@ -168,7 +175,7 @@ fn outgoing(rt: &HostRuntime) -> io::Result<()> {
     println!(rt; "P9 reset at 0x80000000, 0x80000001: {half} {past}")?;
     let plain = [0x08, 0x02, 0x00, 0x00, 0x34, 0x12, 0x1e, 0x01, 0x54];
     let mut out = [0u8; 32];
-    let last = nib::sending(4294967295);
+    let last = nib::sending(u32::MAX);
     let secured = nwk_by_value::secure_with(gateway(7, 7), last, &plain, &mut out);
     let told = Told::from(secured.answer);
     let secured = told.number;

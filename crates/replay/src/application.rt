@@ -2,7 +2,7 @@
 use crate::asked::Case;
 use crate::classes::aps_class;
 use crate::gateway::{pairs_of, tell_pairs};
-use crate::parts::{BLANK, lay};
+use crate::parts::{blanked, laid};
 use crate::telling::{Line, NUMBERS};
 use aps::Aps;
 use std::io;
@@ -15,12 +15,9 @@ fn aps_of(case: &Case<'_>) -> Aps {
 }
 
 pub(crate) fn open(case: &Case<'_>, space: &mut [u8], line: Line<'_>) -> io::Result<()> {
-    let len = case.first.len();
-    lay(case.first, space);
-    if space.len() < len {
+    let Some(frame) = laid(case.first, space) else {
         return line.text("bad\n");
-    }
-    let frame = &mut space[..len];
+    };
     let mut pairs = pairs_of(case);
     let opened = aps::open_aps(aps_of(case), &mut pairs, frame);
     line.answer(opened, aps_class)?;
@@ -31,11 +28,9 @@ pub(crate) fn open(case: &Case<'_>, space: &mut [u8], line: Line<'_>) -> io::Res
 
 pub(crate) fn secure(case: &Case<'_>, space: &mut [u8], line: Line<'_>) -> io::Result<()> {
     let head = case.head;
-    space.fill(BLANK);
-    if space.len() < head.room {
+    let Some(out) = blanked(space, head.room) else {
         return line.text("bad\n");
-    }
-    let out = &mut space[..head.room];
+    };
     let mut pairs = pairs_of(case);
     let secured = aps::secure_aps(
         aps_of(case),

@@ -2,7 +2,7 @@
 use crate::asked::Case;
 use crate::classes::nwk_class;
 use crate::gateway::{keys_of, table_of, tell_table};
-use crate::parts::{BLANK, lay};
+use crate::parts::{blanked, laid};
 use crate::telling::{Line, NUMBERS, ROWS};
 use answer::Refusal;
 use by_value::CounterTable;
@@ -19,12 +19,9 @@ fn nwk_of(case: &Case<'_>) -> Nwk {
 }
 
 pub(crate) fn open(case: &Case<'_>, space: &mut [u8], line: Line<'_>) -> io::Result<()> {
-    let len = case.first.len();
-    lay(case.first, space);
-    if space.len() < len {
+    let Some(frame) = laid(case.first, space) else {
         return line.text("bad\n");
-    }
-    let frame = &mut space[..len];
+    };
     let opened = nwk_by_value::open_with(nwk_of(case), table_of(case), frame);
     line.answer(opened.answer, nwk_class)?;
     line.number(opened.active as u64)?;
@@ -33,11 +30,9 @@ pub(crate) fn open(case: &Case<'_>, space: &mut [u8], line: Line<'_>) -> io::Res
 }
 
 pub(crate) fn secure(case: &Case<'_>, space: &mut [u8], line: Line<'_>) -> io::Result<()> {
-    space.fill(BLANK);
-    if space.len() < case.head.room {
+    let Some(out) = blanked(space, case.head.room) else {
         return line.text("bad\n");
-    }
-    let out = &mut space[..case.head.room];
+    };
     let outgoing = nib::sending(case.head.outgoing);
     let secured = nwk_by_value::secure_with(nwk_of(case), outgoing, case.first, out);
     line.answer(secured.answer, nwk_class)?;

@@ -1,7 +1,9 @@
-// Parts of the input. Each of these takes any place: where the string ends before, there are zeros.
+// Parts of the input, each at any place: where the string ends before, there are zeros. And the space that a call writes to.
+
+ghost use Rattle.std.specs.Prelude.{OnSome, ◌≤◌, length};
 
 // Every byte of the space before a call writes there, so that what was not written shows.
-pub(crate) const BLANK: u8 = 0xee;
+const BLANK: u8 = 0xee;
 
 // The N bytes at a place; zeros alone where the string has fewer.
 pub(crate) fn bytes_at<const N: usize>(s: &[u8], at: usize) -> [u8; N] {
@@ -29,8 +31,28 @@ pub(crate) fn parted(s: &[u8], n: usize) -> (&[u8], &[u8]) {
 }
 
 // A copy of s at the start of the space, as much of it as there is space for.
-pub(crate) fn lay(s: &[u8], space: &mut [u8]) {
+fn lay(s: &[u8], space: &mut [u8]) {
     for (to, from) in space.iter_mut().zip(s) {
         *to = *from;
     }
+}
+
+// The string laid into the space, and the bytes that it then takes up; none where there is no space for it.
+pub(crate) fn laid<'a>(s: &[u8], space: &'a mut [u8]) -> Option<&'a mut [u8]>
+    ensures { OnSome result (length s.now ≤ length space.old) }
+{
+    lay(s, space);
+    if space.len() < s.len() {
+        return None;
+    }
+    Some(&mut space[..s.len()])
+}
+
+// The space made blank, and its first bytes, as many as there is to be room for; none where it has fewer.
+pub(crate) fn blanked(space: &mut [u8], room: usize) -> Option<&mut [u8]> {
+    space.fill(BLANK);
+    if space.len() < room {
+        return None;
+    }
+    Some(&mut space[..room])
 }

@@ -1,9 +1,9 @@
 // The calls below the frames: hashes, control byte, headers, auxiliary header, cipher.
-ghost use Rattle.std.specs.Prelude.{◌≤◌, length};
+ghost use Rattle.std.specs.Prelude.{IfSome, ◌≤◌, length};
 
 use crate::asked::Case;
 use crate::classes::nwk_class;
-use crate::parts::{BLANK, bytes_at, lay};
+use crate::parts::{blanked, bytes_at, laid};
 use crate::telling::{Line, NUMBERS, ROWS};
 use answer::Refusal;
 use auxiliary_header::{Auxiliary, KeyUsed};
@@ -105,11 +105,9 @@ pub(crate) fn read_auxiliary(case: &Case<'_>, line: Line<'_>) -> io::Result<()> 
 
 pub(crate) fn write_auxiliary(case: &Case<'_>, space: &mut [u8], line: Line<'_>) -> io::Result<()> {
     let head = case.head;
-    space.fill(BLANK);
-    if space.len() < head.room {
+    let Some(out) = blanked(space, head.room) else {
         return line.text("bad\n");
-    }
-    let out = &mut space[..head.room];
+    };
     let control = Control { byte: head.control };
     let written = auxiliary_header::write(out, 0, control, head.counter, head.device, head.number);
     tell_outcome(written, line)?;
@@ -132,19 +130,14 @@ fn read_under(s: &[u8]) -> Under<'_> {
     }
 }
 
-// Two strings laid into the space, one after the other: where the second ends, or 0 where there is no space for both.
-fn laid(a: &[u8], b: &[u8], space: &mut [u8]) -> usize
-    ensures { result ≤ length space.new }
+// Two strings laid into the space, one after the other: where the second ends; none where there is no space for both.
+// `seal` and `unseal` then take 0 for the end: the cipher gets too few bytes, and refuses.
+fn both_laid(a: &[u8], b: &[u8], space: &mut [u8]) -> Option<usize>
+    ensures { IfSome result (λ end. end ≤ length space.new) }
 {
-    lay(a, space);
-    if space.len() < a.len() {
-        return 0;
-    }
-    lay(b, &mut space[a.len()..]);
-    if space.len() - a.len() < b.len() {
-        return 0;
-    }
-    a.len() + b.len()
+    laid(a, space)?;
+    laid(b, &mut space[a.len()..])?;
+    Some(a.len() + b.len())
 }
 
 // The message is in the second string. The message with its tag is told.
@@ -152,7 +145,7 @@ pub(crate) fn seal(case: &Case<'_>, space: &mut [u8], line: Line<'_>) -> io::Res
     let under = read_under(case.first);
     let at = under.associated.len();
     let tag = case.head.number as usize;
-    let end = laid(under.associated, case.second, space) + tag;
+    let end = both_laid(under.associated, case.second, space).unwrap_or(0) + tag;
     if space.len() < end {
         return line.text("bad\n");
     }
@@ -168,7 +161,7 @@ pub(crate) fn unseal(case: &Case<'_>, space: &mut [u8], line: Line<'_>) -> io::R
     let at = under.associated.len();
     let n = case.second.len();
     let tag = case.head.number as usize;
-    let end = laid(under.associated, case.second, space);
+    let end = both_laid(under.associated, case.second, space).unwrap_or(0);
     if space.len() < end || n < tag {
         return line.text("bad\n");
     }
