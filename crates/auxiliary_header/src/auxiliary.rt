@@ -123,7 +123,7 @@ fn put_all(out: &mut [u8], at: usize, control: Control, counter: u32, sender: u6
 }
 
 // Writes the auxiliary header from `at` on. Sender and number are used only where the control byte says that they are present.
-// The new form is no plainer: a struct of the four values would be built at each call and taken apart here, as each caller has them apart.
+// Six parameters, as docs/PROMISES.md has it: a struct of the four values is no plainer, built at each call and taken apart here.
 #[tactic(auto, using(crate::proofs::AuxiliaryLaws::lengths), unfolding(crate::specs::Written::written, crate::specs::Written::outcome_of))]
 pub fn write(
     out: &mut [u8],

@@ -66,7 +66,7 @@ fn hash_input(rt: &HostRuntime, shows: bool) -> Result<[u8; 16], NoValue> {
     Ok(mmo::hash_finish(state)?)
 }
 
-// vectors has these lines too: a crate for the three of them would be no plainer.
+// The octets in hexadecimal. `vectors` has these lines too: a crate for three lines is no plainer.
 fn print_value(rt: &HostRuntime, value: &[u8]) -> io::Result<()> {
     for octet in value {
         print!(rt; "{octet:02x}")?;

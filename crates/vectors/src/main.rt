@@ -148,7 +148,7 @@ fn filled<const N: usize>(s: &[u8]) -> [u8; N] {
     out
 }
 
-// firmware_hash has these lines too: a crate for the three of them would be no plainer.
+// `firmware_hash` has these lines too: a crate for three lines is no plainer.
 fn print_bytes(rt: &HostRuntime, s: &[u8]) -> io::Result<()> {
     for x in s {
         print!(rt; "{x:02x}")?;
