@@ -39,12 +39,14 @@ pub struct Envelope {
     pub counter: u32,
     pub at: usize,
     pub payload: usize,
+    ghost headed: { at < payload },
 }
 
 impl Envelope {
     // Opens the frame where its tag is right: payload plain, level filled in. Else every byte stays.
     pub fn unprotect(self, frame: &mut [u8]) -> Result<(), Refusal>
-        requires { (self.at < self.payload) × (self.payload + 4 ≤ length frame.old) × (length frame.old ≤ 1024) }
+        // What is asked relates the envelope to the frame, so it is no rule of the type.
+        requires { (self.payload + 4 ≤ length frame.old) × (length frame.old ≤ 1024) }
         ensures value { result ≡ vouching (vouches self.key self.sender self.counter self.at self.payload frame.old) }
         ensures frame_after { frame.new ≡ when_done result (opened_octets self.key self.sender self.counter self.at self.payload frame.old) frame.old }
     {
@@ -64,7 +66,7 @@ impl Envelope {
     // Whether the frame's tag is right; the frame itself is left alone.
     #[tactic(auto, using(crate::proofs::Answers::copied))]
     pub fn vouch(self, frame: &[u8]) -> Result<(), Refusal>
-        requires { (self.at < self.payload) × (self.payload + 4 ≤ length frame.now) × (length frame.now ≤ 1024) }
+        requires { (self.payload + 4 ≤ length frame.now) × (length frame.now ≤ 1024) }
         ensures { result ≡ vouching (vouches self.key self.sender self.counter self.at self.payload frame.now) }
     {
         let mut aside = [0u8; 1024];
@@ -76,7 +78,7 @@ impl Envelope {
     // The tag is checked before the room for a new row; without room nothing is opened.
     #[tactic(auto, unfolding(crate::specs::Heard::tried))]
     pub fn open(self, room: bool, frame: &mut [u8]) -> Answer
-        requires { (self.at < self.payload) × (self.payload + 4 ≤ length frame.old) × (length frame.old ≤ 1024) }
+        requires { (self.payload + 4 ≤ length frame.old) × (length frame.old ≤ 1024) }
         ensures value { result ≡ (tried self.key self.sender self.counter self.at self.payload room frame.old).answer }
         ensures frame_after { frame.new ≡ (tried self.key self.sender self.counter self.at self.payload room frame.old).frame }
     {
@@ -93,7 +95,7 @@ impl Envelope {
 
     // Seals the n bytes from `payload` on, after headers whose control byte is as it goes on the air, and puts the tag after them.
     pub fn protect(self, out: &mut [u8], n: usize)
-        requires { (self.at < self.payload) × (self.payload ≤ 1024) × (n ≤ 1024) × (self.payload + n + 4 ≤ length out.old) }
+        requires { (self.payload ≤ 1024) × (n ≤ 1024) × (self.payload + n + 4 ≤ length out.old) }
         ensures { out.new ≡ secured_octets self.key self.sender self.counter self.at (take self.payload out.old) (take n (drop self.payload out.old)) ++ drop (self.payload + n + 4) out.old }
     {
         let keys = aes::expand(self.key);

@@ -27,7 +27,7 @@ pub open-requires : goal.open-requires
 open-requires c =
     let a = c.args in
     let z = judged-allowed a.claim (held_in a.held) a.room a.frame.now (sym c.allowed.ensures ∙ c.in_ok-allowed.was) in
-    (c.requires.0, z.size, c.requires.2)
+    (z.size, c.requires.2)
 
 pub returns : goal.returns
 returns c =
