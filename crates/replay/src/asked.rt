@@ -84,7 +84,7 @@ pub(crate) struct Head {
 }
 
 impl Head {
-    pub fn read(head: &[u8]) -> Head {
+    pub(crate) fn read(head: &[u8]) -> Head {
         Head {
             call: octet(head, 0),
             show: octet(head, 1),
@@ -107,7 +107,7 @@ impl Head {
     }
 
     // How many bytes follow the head.
-    pub fn size(&self) -> usize {
+    pub(crate) fn size(&self) -> usize {
         17 * self.keys as usize
             + 13 * self.rows as usize
             + 34 * self.pairs as usize
@@ -116,7 +116,7 @@ impl Head {
     }
 
     // Whether the tables fit what document 01 gives them.
-    pub fn fits(&self) -> bool {
+    pub(crate) fn fits(&self) -> bool {
         self.keys <= 2 && self.rows <= 64 && self.pairs <= 16
     }
 }
@@ -133,7 +133,7 @@ pub(crate) struct Case<'a> {
 }
 
 impl<'a> Case<'a> {
-    pub fn new(head: Head, body: &'a [u8]) -> Case<'a> {
+    pub(crate) fn new(head: Head, body: &'a [u8]) -> Case<'a> {
         let (keys, rest) = parted(body, 17 * head.keys as usize);
         let (rows, rest) = parted(rest, 13 * head.rows as usize);
         let (pairs, rest) = parted(rest, 34 * head.pairs as usize);

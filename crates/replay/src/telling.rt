@@ -30,11 +30,11 @@ pub(crate) struct Line<'a> {
 }
 
 impl<'a> Line<'a> {
-    pub fn shows(self, what: u8) -> bool {
+    pub(crate) fn shows(self, what: u8) -> bool {
         self.show & what != 0
     }
 
-    pub fn text(self, s: &str) -> io::Result<()> {
+    pub(crate) fn text(self, s: &str) -> io::Result<()> {
         self.rt.stdout().write_all(s.as_bytes())
     }
 
@@ -52,14 +52,14 @@ impl<'a> Line<'a> {
         self.rt.stdout().write_all(&digits[..end])
     }
 
-    pub fn octets(self, s: &[u8]) -> io::Result<()> {
+    pub(crate) fn octets(self, s: &[u8]) -> io::Result<()> {
         for piece in s.chunks(PIECE) {
             self.piece(piece)?;
         }
         Ok(())
     }
 
-    pub fn number_and_span(self, number: u8, start: usize, len: usize) -> io::Result<()> {
+    pub(crate) fn number_and_span(self, number: u8, start: usize, len: usize) -> io::Result<()> {
         if self.shows(ANSWER) {
             self.decimal(number as u64)?;
         } else {
@@ -73,7 +73,7 @@ impl<'a> Line<'a> {
     }
 
     // An answer, with its refusal led back to a class.
-    pub fn answer<F: Fn(Refusal) -> u8>(self, answer: Answer, class: F) -> io::Result<()>
+    pub(crate) fn answer<F: Fn(Refusal) -> u8>(self, answer: Answer, class: F) -> io::Result<()>
         requires { F.IsAlwaysCallable class }
     {
         match answer {
@@ -83,7 +83,7 @@ impl<'a> Line<'a> {
         }
     }
 
-    pub fn outcome<F: Fn(Refusal) -> u8>(
+    pub(crate) fn outcome<F: Fn(Refusal) -> u8>(
         self,
         outcome: Result<(), Refusal>,
         class: F,
@@ -97,7 +97,7 @@ impl<'a> Line<'a> {
     }
 
     // The only number, or the first of some.
-    pub fn number(self, n: u64) -> io::Result<()> {
+    pub(crate) fn number(self, n: u64) -> io::Result<()> {
         self.text(" ")?;
         if self.shows(NUMBERS) {
             self.decimal(n)
@@ -106,7 +106,7 @@ impl<'a> Line<'a> {
         }
     }
 
-    pub fn next(self, n: u64) -> io::Result<()> {
+    pub(crate) fn next(self, n: u64) -> io::Result<()> {
         if self.shows(NUMBERS) {
             print!(self.rt; ",{n}")
         } else {
@@ -114,12 +114,12 @@ impl<'a> Line<'a> {
         }
     }
 
-    pub fn none(self, what: u8) -> io::Result<()> {
+    pub(crate) fn none(self, what: u8) -> io::Result<()> {
         self.text(if self.shows(what) { " -" } else { " ." })
     }
 
     // The bytes, and the line's end.
-    pub fn bytes(self, s: &[u8]) -> io::Result<()> {
+    pub(crate) fn bytes(self, s: &[u8]) -> io::Result<()> {
         if s.is_empty() {
             self.none(BYTES)?;
         } else if self.shows(BYTES) {

@@ -36,7 +36,7 @@ impl From<u8> for Field {
 }
 
 // The number in one or two bytes, low byte first.
-pub fn number(s: &[u8]) -> usize {
+pub(crate) fn number(s: &[u8]) -> usize {
     match s {
         [low] => usize::from(*low),
         [low, high] => usize::from(u16::from_le_bytes([*low, *high])),
@@ -51,7 +51,7 @@ pub struct Fields<'a> {
 }
 
 impl<'a> Fields<'a> {
-    pub fn of(input: &'a [u8]) -> Fields<'a> {
+    pub(crate) fn of(input: &'a [u8]) -> Fields<'a> {
         Fields { rest: input }
     }
 }
