@@ -26,9 +26,13 @@ pub fn hash_from(initial: &[u8], message: &[u8]) -> Result<[u8; 16], Refusal>
     ended(start, message, tables::cipher_tables())
 }
 
-// The keyed hash of a text.
+// The keyed hash of a text. One that is too long is refused before its key is hashed, so that a refusal costs the same for every key.
+#[tactic(auto, unfolding(crate::specs::Limits::keyed_hashing))]
 pub fn keyed_hash(key: &[u8], text: &[u8]) -> Result<[u8; 16], Refusal>
     ensures { result ≡ giving (keyed_hashing (length key.now) (length text.now)) (keyed_hash key.now text.now) }
 {
+    if 536870895 < text.len() {
+        return Err(Refusal::Unsupported);
+    }
     keyed_with(key, text, tables::cipher_tables())
 }
