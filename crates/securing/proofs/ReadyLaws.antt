@@ -21,6 +21,7 @@ use Rattle.nib.specs.Keys.{key_found}
 use Rattle.nib.specs.Sending.{AfterTaking, may_use, taken, took}
 use Rattle.protection.specs.Protection.{level}
 use Rattle.nib.specs.declared.state.Nwk.{Nwk}
+use Rattle.securing.specs.declared.ready.Ready.{Ready}
 use Rattle.securing.specs.Ready.{ready_framed, ready_for}
 use Rattle.securing.specs.SecureNwk.{Secured, not_secured, nwk_added, nwk_on_air, nwk_done, nwk_framed, secure_nwk}
 
@@ -76,42 +77,45 @@ module _ (s : Nwk) (o : Outgoing) (plain out : List ℕ) (start len : ℕ) where
 
 -- ---- the checks, and what follows them
 
-never_ok : {X : Type 0} {why : Refusal} {header : ℕ} → ◌≡◌ {A = Result ℕ Refusal} (Err why) (Ok header) → X
+never_ok : {X : Type 0} {why : Refusal} {ready : Ready} → ◌≡◌ {A = Result Ready Refusal} (Err why) (Ok ready) → X
 never_ok e = let z : ◌≡◌ {A = ℕ} 0 1 = cc in absurd (omega arith)
 
 module _ (s : Nwk) (o : Outgoing) (plain out : List ℕ) where
-  abbrev asked : Result ℕ Refusal
+  abbrev asked : Result Ready Refusal
   asked = ready_for s o.next plain (length out)
 
-  -- where every check was passed, the header's length is the plain frame's
-  header-is : (a b c d e : Bool) (header : ℕ) → cond a (Err Unsupported) (cond b (Err Unsupported) (cond c (Err NoNetworkKey) (cond d (Err CounterExhausted) (cond e (Err NoRoom) (Ok (nwk_length plain)))))) ≡ Ok header
-      → header ≡ nwk_length plain
-  header-is true b c d e header t = never_ok t
-  header-is false true c d e header t = never_ok t
-  header-is false false true d e header t = never_ok t
-  header-is false false false true e header t = never_ok t
-  header-is false false false false true header t = never_ok t
-  header-is false false false false false header t = cc
+  -- where every check was passed: the whole finished frame is answered, and the header's length is the plain frame's
+  abbrev passes : Ready
+  passes = record { answer = Done 0 (length plain + nwk_added); header = nwk_length plain }
+
+  ready-is : (a b c d e : Bool) (ready : Ready) → cond a (Err Unsupported) (cond b (Err Unsupported) (cond c (Err NoNetworkKey) (cond d (Err CounterExhausted) (cond e (Err NoRoom) (Ok passes))))) ≡ Ok ready
+      → ready ≡ passes
+  ready-is true b c d e ready t = never_ok t
+  ready-is false true c d e ready t = never_ok t
+  ready-is false false true d e ready t = never_ok t
+  ready-is false false false true e ready t = never_ok t
+  ready-is false false false false true ready t = never_ok t
+  ready-is false false false false false ready t = cc
 
   abbrev read : Bool → Result NwkHeader Refusal
   read w = cond w (Ok (record { len = nwk_length plain; kind = nwk_kind (nwk_control plain); secured = bit 9 (nwk_control plain) })) (Err Cut)
 
-  header-read : (header : ℕ) → asked ≡ Ok header → header ≡ nwk_length plain
+  ready-read : (ready : Ready) → asked ≡ Ok ready → ready ≡ passes
   unfolding ready_for nwk_of
-  header-read header t = at (leb (nwk_length plain) (length plain)) (not (eqb s.level level) || (ltb 2 s.keys.used || ltb 1006 (length plain))) t
+  ready-read ready t = at (leb (nwk_length plain) (length plain)) (not (eqb s.level level) || (ltb 2 s.keys.used || ltb 1006 (length plain))) t
     where
-      at : (w a : Bool) → cond a (Err Unsupported) (ready_framed s o.next (length plain) (length out) (read w)) ≡ Ok header → header ≡ nwk_length plain
+      at : (w a : Bool) → cond a (Err Unsupported) (ready_framed s o.next (length plain) (length out) (read w)) ≡ Ok ready → ready ≡ passes
       at true a h =
-          header-is a (leb 2 (nwk_kind_number (nwk_kind (nwk_control plain))) || not (bit 9 (nwk_control plain))) (not (is_some (key_found s.keys s.active))) (not (may_use o)) (ltb (length out) (length plain + nwk_added)) header h
+          ready-is a (leb 2 (nwk_kind_number (nwk_kind (nwk_control plain))) || not (bit 9 (nwk_control plain))) (not (is_some (key_found s.keys s.active))) (not (may_use o)) (ltb (length out) (length plain + nwk_added)) ready h
       at false true h = never_ok h
       at false false h = never_ok h
 
   -- what is left, by what was asked
-  abbrev by : Result ℕ Refusal → Secured
+  abbrev by : Result Ready Refusal → Secured
   by (Err why) = not_secured why out o
-  by (Ok header) = nwk_done s o plain out header
+  by (Ok ready) = nwk_done s o plain out ready.header
 
-  by_cond : (t : Bool) (why : Refusal) (rest : Result ℕ Refusal) → by (cond t (Err why) rest) ≡ cond t (not_secured why out o) (by rest)
+  by_cond : (t : Bool) (why : Refusal) (rest : Result Ready Refusal) → by (cond t (Err why) rest) ≡ cond t (not_secured why out o) (by rest)
   by_cond true why rest = refl
   by_cond false why rest = refl
 
@@ -128,7 +132,10 @@ module _ (s : Nwk) (o : Outgoing) (plain out : List ℕ) where
   refuses why e = rw e at by-asked
 
   -- and where every check was passed
-  module _ (header : ℕ) (is-asked : asked ≡ Ok header) where
+  module _ (ready : Ready) (is-asked : asked ≡ Ok ready) where
+    abbrev header : ℕ
+    header = ready.header
+
     done : nwk_done s o plain out header ≡ secure_nwk s o plain out
     done = rw is-asked at by-asked
 
@@ -136,7 +143,7 @@ module _ (s : Nwk) (o : Outgoing) (plain out : List ℕ) where
     checked = is-checked s o plain out 0 (length plain + nwk_added) (sym (ap (λ (x : Secured). x.answer) done))
 
     pub goes : (header ≤ length plain) × (length plain ≤ 1006) × (length plain + nwk_added ≤ length out)
-    goes = (rw (header-read header is-asked) checked.whole, checked.small, checked.fits)
+    goes = (rw (ready-read ready is-asked) checked.whole, checked.small, checked.fits)
 
     pub takes : taken o ≡ record { outcome = Ok tt; counter = o.next; outgoing = record { next = o.next + 1 } }
     unfolding taken
@@ -145,10 +152,11 @@ module _ (s : Nwk) (o : Outgoing) (plain out : List ℕ) where
     -- the counter is taken, and the frame written under it
     pub sent : (r : Result ℕ Refusal) (o' : Outgoing) → took r o' ≡ taken o → (counter : ℕ) → r ≡ Ok counter
         → (y : List ℕ) → y ≡ nwk_on_air s counter plain header ++ drop (length plain + nwk_added) out
-        → record { answer = Ok (Done 0 (length plain + nwk_added)); out = y; outgoing = o' } ≡ secure_nwk s o plain out
+        → record { answer = Ok ready.answer; out = y; outgoing = o' } ≡ secure_nwk s o plain out
     sent r o' k counter e y f =
         let w : record { outcome = Ok tt; counter = counter; outgoing = o' } ≡ record { outcome = Ok tt; counter = o.next; outgoing = record { next = o.next + 1 } } = (ap (λ (x : Result ℕ Refusal). took x o') (sym e) ∙ k) ∙ takes in
-        (λ i. record { answer = Ok (Done 0 (length plain + nwk_added)); out = (f ∙ ap (λ (x : AfterTaking). nwk_on_air s x.counter plain header ++ drop (length plain + nwk_added) out) w) i; outgoing = (w i).outgoing })
+        let t : ready.answer ≡ Done 0 (length plain + nwk_added) = ap (λ (x : Ready). x.answer) (ready-read ready is-asked) in
+        (λ i. record { answer = Ok (t i); out = (f ∙ ap (λ (x : AfterTaking). nwk_on_air s x.counter plain header ++ drop (length plain + nwk_added) out) w) i; outgoing = (w i).outgoing })
         ∙ done
 
     -- no counter that may be used is refused

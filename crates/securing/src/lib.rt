@@ -5,5 +5,5 @@
 mod ready;
 mod writing;
 
-pub use ready::ready_for;
+pub use ready::{Ready, ready_for};
 pub use writing::{ADDED, finish};
