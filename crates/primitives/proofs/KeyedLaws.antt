@@ -31,9 +31,9 @@ keyed K text k i r x y ek ex ei ey er =
     b ∙ ap (λ (z : List ℕ). hash ((k ⊕ opad) ++ z)) a ∙ ap (λ (q : List ℕ). hash ((q ⊕ opad) ++ hash ((q ⊕ ipad) ++ text))) ek
 
 -- what is too long, and what is not
-pub keyed-text : (k n : ℕ) → limit - 16 < n → keyed_hashing k n ≡ Err Unsupported
+pub keyed_text : (k n : ℕ) → limit - 16 < n → keyed_hashing k n ≡ Err Unsupported
 unfolding keyed_hashing
-keyed-text k n h = rw (lt-ltb (limit - 16) n h)
+keyed_text k n h = rw (lt-ltb (limit - 16) n h)
 
 pub keyed-key : (k n : ℕ) → limit < k → keyed_hashing k n ≡ Err Unsupported
 unfolding keyed_hashing

@@ -26,8 +26,8 @@ pub fn hash_from(initial: &[u8], message: &[u8]) -> Result<[u8; 16], Refusal>
     ended(start, message, tables::cipher_tables())
 }
 
-// The keyed hash of a text. One that is too long is refused before its key is hashed, so that a refusal costs the same for every key.
-#[tactic(auto, unfolding(crate::specs::Limits::keyed_hashing))]
+// The keyed hash of a text. One that is too long is refused before its key is hashed: a refusal costs the same for every key.
+#[tactic(auto, using(crate::proofs::KeyedLaws::keyed_text))]
 pub fn keyed_hash(key: &[u8], text: &[u8]) -> Result<[u8; 16], Refusal>
     ensures { result ≡ giving (keyed_hashing (length key.now) (length text.now)) (keyed_hash key.now text.now) }
 {
