@@ -1,9 +1,16 @@
 -- ONE OUTCOME (document 01, 'What the promises have to decide'). For each public function: two results, with two contents of all memory
 -- lent, that its promise allows are equal. The promises are not written again here: `f-reads.Post` is what the prover itself has read from
 -- the `ensures` of f. Of nine functions, which were proved by hand once, the claim is also written down, and `f-says` shows that it is their
--- `ensures`. Two kinds are left out: what prints (`Display`, `Debug`) promises no text, and `input::read_full` reads from outside.
-use Rattle.std.specs.Prelude.{ℕ, ◌^◌, ◌<◌, List, length, ◌≡◌, refl}
+-- `ensures`. Of `Display` for reader's `Fault` and `BadField` it is shown that the text is one. Three kinds are left out: `Debug`, which promises no
+-- text, equality and copies that are derived, and the crate `input`, which reads from outside.
+use Rattle.std.specs.Prelude.{ℕ, ◌^◌, ◌<◌, List, ◌++◌, length, ◌≡◌, refl, Ok}
+use Rattle.std.specs.Fmt.{IsPlainFormatter}
+use Rattle.std.specs.declared.fmt.Write.{Ghosts}
 use Rattle.std.proofs.Common.{sym, ap, ◌∙◌}
+use Rattle.std.proofs.lemmas.Fmt.{contents_after_writes}
+use mir.Syntax.{Dict}
+use denote.RattleType.{RattleType}
+use denote.Param.Laws.{Laws}
 use contract.Lifetimes.{Lfts}
 use denote.Triple.Entry.{Args, Res}
 use denote.Triple.Clauses.{Lasts, at_exit}
@@ -223,6 +230,10 @@ use Rattle.reader.specs.contracts.reading.Reader.start as reader-start'
 use Rattle.reader.proofs.reading.Reader.start.Reads as reader-start-reads
 use Rattle.reader.specs.contracts.reading.Reader.next as reader-next'
 use Rattle.reader.proofs.reading.Reader.next.Reads as reader-next-reads
+use Rattle.reader.specs.contracts.faults.FaultDisplay.fmt as reader-fault'
+use Rattle.reader.proofs.faults.FaultDisplay.fmt.Reads as reader-fault-reads
+use Rattle.reader.specs.contracts.faults.BadFieldDisplay.fmt as reader-bad-field'
+use Rattle.reader.proofs.faults.BadFieldDisplay.fmt.Reads as reader-bad-field-reads
 use Rattle.decided.specs.Decides.{Decides, Says, counter-record-take-promise, counter-rows-held-promise, counter-rows-settle-promise, counter-rows-forget-promise, nwk-open-nwk-promise, nwk-secure-nwk-promise, pouchkettle-open-nwk-promise, pouchkettle-secure-nwk-promise, pouchkettle-forget-promise}
 
 when-same : {r r' : Outcome} (x y : List ℕ) → r ≡ r' → when_done r x y ≡ when_done r' x y
@@ -754,3 +765,25 @@ reader-start κs a z z' ws ws' p q = (p ∙ sym q, refl)
 pub reader-next : Decides reader-next'.ended reader-next-reads.Post
 unfolding Decides
 reader-next κs a z z' ws ws' p q = let same = p ∙ sym q in (λ i. (same i).event, λ i. ((same i).reader, (tt, tt)))
+
+-- These two print, and promise a text. They are handed a formatter with no options; its writer W is any type of which the caller knows that it keeps
+-- what it is given (`contents`). Where the printing does not fail, what the writer holds after it is the same; whether it fails is the writer's.
+pub reader-fault : (W : RattleType) (laws : Laws W) (gives : Ghosts W.Denot) (dict : Dict) (contents : W.Denot → List ℕ)
+    → ((w : W.Denot) (bs : List ℕ) (v : W.Denot) → gives.write_str_gives w bs v → contents v ≡ contents w ++ bs)
+    → (κs : Lfts (reader-fault'.signature W).lifetimes) (a : Args (reader-fault'.signature W) κs) (ws ws' : Lasts (reader-fault'.ended W gives dict) κs a) → IsPlainFormatter a.1.0.now
+    → reader-fault-reads.Post W laws gives dict κs a (Ok tt) (at_exit (reader-fault'.ended W gives dict) κs a ws)
+    → reader-fault-reads.Post W laws gives dict κs a (Ok tt) (at_exit (reader-fault'.ended W gives dict) κs a ws')
+    → contents (at_exit (reader-fault'.ended W gives dict) κs a ws).1.0.now.writer ≡ contents (at_exit (reader-fault'.ended W gives dict) κs a ws').1.0.now.writer
+reader-fault W laws gives dict contents keeps κs a ws ws' plain p q =
+    let one = contents_after_writes gives.write_str_gives contents keeps in
+    one _ _ _ (p.0 plain refl).wrote ∙ sym (one _ _ _ (q.0 plain refl).wrote)
+
+pub reader-bad-field : (W : RattleType) (laws : Laws W) (gives : Ghosts W.Denot) (dict : Dict) (contents : W.Denot → List ℕ)
+    → ((w : W.Denot) (bs : List ℕ) (v : W.Denot) → gives.write_str_gives w bs v → contents v ≡ contents w ++ bs)
+    → (κs : Lfts (reader-bad-field'.signature W).lifetimes) (a : Args (reader-bad-field'.signature W) κs) (ws ws' : Lasts (reader-bad-field'.ended W gives dict) κs a) → IsPlainFormatter a.1.0.now
+    → reader-bad-field-reads.Post W laws gives dict κs a (Ok tt) (at_exit (reader-bad-field'.ended W gives dict) κs a ws)
+    → reader-bad-field-reads.Post W laws gives dict κs a (Ok tt) (at_exit (reader-bad-field'.ended W gives dict) κs a ws')
+    → contents (at_exit (reader-bad-field'.ended W gives dict) κs a ws).1.0.now.writer ≡ contents (at_exit (reader-bad-field'.ended W gives dict) κs a ws').1.0.now.writer
+reader-bad-field W laws gives dict contents keeps κs a ws ws' plain p q =
+    let one = contents_after_writes gives.write_str_gives contents keeps in
+    one _ _ _ (p.0 plain refl).wrote ∙ sym (one _ _ _ (q.0 plain refl).wrote)

@@ -1,8 +1,8 @@
 -- ONE OUTCOME (document 01, 'What the promises have to decide'). For each public function: two results, with two contents of all memory
 -- lent, that its promise allows are equal. The promises are not written again here: `f-reads.Post` is what the prover itself has read from
 -- the `ensures` of f. Of nine functions, which were proved by hand once, the claim is also written down, and `f-says` shows that it is their
--- `ensures`. Three kinds are left out: what writes a value out (`Display`, `Debug`), equality and copies that are
--- derived, and the crate `input`, which reads from outside.
+-- `ensures`. Of `Display` for reader's `Fault` and `BadField` it is shown that the text is one. Three kinds are left out: `Debug`, which promises no
+-- text, equality and copies that are derived, and the crate `input`, which reads from outside.
 use Rattle.std.specs.Prelude.{◌≡◌}
 use seplogic.Ra.Ura.{Ura}
 use base.Logic.{SProp}
