@@ -12,7 +12,7 @@ use Rattle.std.specs.Prelude.{Option, Some, None, option_map, is_some, ok_or, Re
 use Rattle.std.specs.Result.{result_and}
 use Rattle.answer.specs.Numbers.{Answer, Outcome}
 use Rattle.answer.specs.declared.Accepted.{Accepted}
-use Rattle.answer.specs.declared.Accepted.TheVariants.{Done, Plain}
+use Rattle.answer.specs.declared.Accepted.TheVariants.{Done}
 use Rattle.answer.specs.declared.Refusal.{Refusal}
 use Rattle.answer.specs.declared.Refusal.TheVariants.{Unsupported, Cut, KeyNotAllowed, CounterRepeated, CounterBehind, WrongTag, TableFull}
 use Rattle.cells.specs.Lists.{any}
@@ -228,9 +228,9 @@ module _ (s : Aps) (pairs : Pairs) (b : List ℕ) where
     unfolding open_aps aps_placed
     opens-refused why w = rw (fits, w)
 
-    pub opens-plain : (start len : ℕ) → aps_who b ≡ Ok (who.Plain start len) → unchanged pairs (record { answer = Ok (Plain start len); frame = b }) ≡ open_aps s pairs b
+    pub opens-told : (a : Accepted) → aps_who b ≡ Ok (who.Told a) → unchanged pairs (record { answer = Ok a; frame = b }) ≡ open_aps s pairs b
     unfolding open_aps aps_placed
-    opens-plain start len w = rw (fits, w)
+    opens-told a w = rw (fits, w)
 
     pub opens-claim : (c : Claim) → aps_who b ≡ Ok (who.Claims c) → committed pairs c b ≡ open_aps s pairs b
     unfolding open_aps aps_placed committed

@@ -1,7 +1,7 @@
 -- Opening APS (document 01, 'Order of checks'): a judgement that only reads, and then one commit.
 use Rattle.std.specs.Prelude.{Bool, cond, not, ◌||◌, List, ℕ, ◌+◌, eqb, ltb, length, Option, None, Some, Result, Ok, Err}
 use Rattle.answer.specs.Numbers.{Answer}
-use Rattle.answer.specs.declared.Accepted.TheVariants.{Done, Plain}
+use Rattle.answer.specs.declared.Accepted.TheVariants.{Done}
 use Rattle.answer.specs.declared.Refusal.TheVariants.{Unsupported, Cut, KeyNotAllowed, CounterRepeated, CounterBehind, WrongTag, TableFull}
 use Rattle.cells.specs.Rows.{Reaction, leave, become, Settled, find, settle}
 use Rattle.aib.specs.declared.pairs.PairRow.{PairRow}
@@ -59,7 +59,7 @@ aps_committed pairs t = record { answer = t.out.answer; frame = t.out.frame; pai
 
 unfoldable pub aps_placed : Pairs → List ℕ → Result Who Refusal → Opened
 aps_placed pairs b (Err why) = unchanged pairs (refused why b)
-aps_placed pairs b (Ok (who.Plain start len)) = unchanged pairs (record { answer = Ok (Plain start len); frame = b })
+aps_placed pairs b (Ok (who.Told a)) = unchanged pairs (record { answer = Ok a; frame = b })
 aps_placed pairs b (Ok (who.Claims c)) =
     aps_committed pairs (settle pair_rows 16 (in_use pairs) c.sender (aps_judged c (find pair_rows (in_use pairs) c.sender) b))
 

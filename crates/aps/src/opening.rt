@@ -7,7 +7,7 @@ ghost use Rattle.aps.specs.Opening.{held_in, allowed, replied, committed};
 use crate::keys::key_for;
 use crate::state::{Aps, unfit};
 use aib::{PairRow, Pairs, TRUST_CENTER_LINK_KEY};
-use answer::{Accepted, Answer, Refusal};
+use answer::{Answer, Refusal};
 use claims::{Claim, Who};
 use protection::Envelope;
 
@@ -77,7 +77,7 @@ pub fn open_aps(aps: Aps, pairs: &mut Pairs, frame: &mut [u8]) -> Answer
     }
     let who = claims::aps_who(frame)?;
     match who {
-        Who::Plain { start, len } => Ok(Accepted::Plain { start, len }),
+        Who::Told(accepted) => Ok(accepted),
         Who::Claims(claim) => open_claim(pairs, claim, frame),
     }
 }

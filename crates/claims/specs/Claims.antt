@@ -1,6 +1,7 @@
 -- What a frame's headers settle, and what it claims where they do not (document 01, 'Order of checks', opening, up to the keys).
 use Rattle.std.specs.Prelude.{Bool, true, false, cond, not, Option, None, Some, is_some, Result, Ok, Err, List, ℕ, ◌-◌, eqb, ltb, length}
 use Rattle.answer.specs.Numbers.{Outcome}
+use Rattle.answer.specs.declared.Accepted.TheVariants.{Plain}
 use Rattle.answer.specs.declared.Refusal.{Refusal}
 use Rattle.answer.specs.declared.Refusal.TheVariants.{Unsupported, Cut, CounterSpent, SenderAbsent, KeyNotAllowed, NoNetworkKey, DeviceAbsent}
 use Rattle.auxiliary_header.specs.declared.auxiliary.Auxiliary.{Auxiliary}
@@ -16,7 +17,7 @@ use Rattle.nib.specs.Keys.{key_found}
 use Rattle.nib.specs.Pairs.{Pair}
 use Rattle.nib.specs.Counters.{pair}
 use Rattle.claims.specs.declared.Who.{Who}
-use Rattle.claims.specs.declared.Who.TheVariants.{Plain, Claims}
+use Rattle.claims.specs.declared.Who.TheVariants.{Told, Claims}
 
 -- the last counter, which is never used
 abbrev pub spent : ℕ
@@ -68,7 +69,7 @@ nwk_auxiliary keys at (Ok a) = cond (eqb a.counter spent) (refuse CounterSpent) 
 -- Header cut: 2. Security bit clear: 1.
 abbrev pub nwk_header : NetworkKeys → List ℕ → Result NwkHeader Refusal → Result Who Refusal
 nwk_header keys b (Err why) = Err why
-nwk_header keys b (Ok h) = cond (not h.secured) (Ok (Plain h.len (length b - h.len))) (nwk_auxiliary keys h.len (auxiliary_at b h.len))
+nwk_header keys b (Ok h) = cond (not h.secured) (Ok (Told (Plain h.len (length b - h.len)))) (nwk_auxiliary keys h.len (auxiliary_at b h.len))
 
 -- Over 1,024 bytes: 7. Under 4 bytes: 2.
 unfoldable pub nwk_who : NetworkKeys → List ℕ → Result Who Refusal
@@ -89,7 +90,7 @@ aps_auxiliary at (Ok a) = cond (eqb a.counter spent) (refuse CounterSpent) (aps_
 -- Kind not taken: 7. Header cut: 2. Security bit clear: 1.
 abbrev pub aps_header : List ℕ → Result ApsHeader Refusal → Result Who Refusal
 aps_header b (Err why) = Err why
-aps_header b (Ok h) = cond (not h.secured) (Ok (Plain h.len (length b - h.len))) (aps_auxiliary h.len (auxiliary_at b h.len))
+aps_header b (Ok h) = cond (not h.secured) (Ok (Told (Plain h.len (length b - h.len)))) (aps_auxiliary h.len (auxiliary_at b h.len))
 
 -- Over 1,024 bytes: 7. Under 4 bytes: 2.
 unfoldable pub aps_who : List ℕ → Result Who Refusal
@@ -99,10 +100,10 @@ aps_who b = cond (ltb 1024 (length b)) (refuse Unsupported) (cond (ltb (length b
 
 abbrev pub pair_of : Result Who Refusal → Option Pair
 pair_of (Err why) = None
-pair_of (Ok (Plain start len)) = None
+pair_of (Ok (Told a)) = None
 pair_of (Ok (Claims c)) = Some (pair (number_of c.key) c.sender)
 
 abbrev pub sender_of : Result Who Refusal → Option ℕ
 sender_of (Err why) = None
-sender_of (Ok (Plain start len)) = None
+sender_of (Ok (Told a)) = None
 sender_of (Ok (Claims c)) = Some c.sender

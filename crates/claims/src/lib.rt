@@ -5,7 +5,7 @@ ghost use Rattle.std.specs.Prelude.{◌≡◌};
 ghost use Rattle.auxiliary_header.specs.Auxiliary.{auxiliary_at};
 ghost use Rattle.claims.specs.Claims.{sized, unspent, claimed, number_of, nwk_who, aps_who};
 
-use answer::Refusal;
+use answer::{Accepted, Refusal};
 use auxiliary_header::{Auxiliary, KeyUsed};
 use control::Control;
 use nib::NetworkKeys;
@@ -21,10 +21,10 @@ pub struct Claim {
     pub payload: usize,
 }
 
-// What the headers say of a frame that they do not refuse: it is plain, or it claims to be somebody's.
+// What is said of a frame that is not refused: its answer is settled, or it claims to be somebody's. Headers settle that it is plain.
 #[derive(Clone, Copy, Debug, PartialEq, Eq)]
 pub enum Who {
-    Plain { start: usize, len: usize },
+    Told(Accepted),
     Claims(Claim),
 }
 
@@ -87,7 +87,7 @@ pub fn nwk_who(keys: NetworkKeys, frame: &[u8]) -> Result<Who, Refusal>
     let start = header.len;
     if !header.secured {
         let len = frame.len() - start;
-        return Ok(Who::Plain { start, len });
+        return Ok(Who::Told(Accepted::Plain { start, len }));
     }
     let a = unspent(frame, start)?;
     let sender = a.sender.ok_or(Refusal::SenderAbsent)?;
@@ -108,7 +108,7 @@ pub fn aps_who(frame: &[u8]) -> Result<Who, Refusal>
     let start = header.len;
     if !header.secured {
         let len = frame.len() - start;
-        return Ok(Who::Plain { start, len });
+        return Ok(Who::Told(Accepted::Plain { start, len }));
     }
     let a = unspent(frame, start)?;
     let sender = a.sender.ok_or(Refusal::DeviceAbsent)?;

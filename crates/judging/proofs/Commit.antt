@@ -198,7 +198,7 @@ module _ (s : Nwk) (rows : List CounterRow) (used : ℕ) (b : List ℕ) (c : Cla
 
 who-of : (w : Result Who Refusal) → (caller_of w).who ≡ w
 who-of (Err why) = refl
-who-of (Ok (who.Plain start len)) = refl
+who-of (Ok (who.Told a)) = refl
 who-of (Ok (who.Claims c)) = refl
 
 never-claims : {X : Type 0} {why : Refusal} {c : Claim} → ◌≡◌ {A = Result Who Refusal} (Err why) (Ok (who.Claims c)) → X
@@ -244,7 +244,7 @@ module _ (s : Nwk) (rows : List CounterRow) (used : ℕ) (b : List ℕ) where
   result-at : (w : Result Who Refusal) → asked ≡ w → result w ≡ nwk_placed s rows used b w
   unfolding nwk_placed settled
   result-at (Err why) e = refl
-  result-at (Ok (who.Plain start len)) e = refl
+  result-at (Ok (who.Told a)) e = refl
   result-at (Ok (who.Claims c)) e = sym (placed-is s rows used b c (claims c e).0)
 
   -- the calls' answers: the caller, what is held for it, the judgement and the frame after it

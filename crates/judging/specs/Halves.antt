@@ -8,7 +8,7 @@ use Rattle.answer.specs.declared.Refusal.TheVariants.{Unsupported, Cut}
 use Rattle.cells.specs.Rows.{Reaction, leave, become}
 use Rattle.nib.specs.declared.counters.CounterRow.{CounterRow}
 use Rattle.nib.specs.declared.counters.Standing.{Standing}
-use Rattle.nib.specs.declared.counters.Standing.TheVariants.{Held, Free, Full}
+use Rattle.nib.specs.declared.counters.Standing.TheVariants.{Held, Free, Full, HeldWithoutRoom}
 use Rattle.nib.specs.declared.keys.NetworkKeys.{NetworkKeys}
 use Rattle.nib.specs.declared.state.Nwk.{Nwk}
 use Rattle.nib.specs.Counters.{Cell, counting, capacity, pair, row_cell, row_of}
@@ -32,7 +32,7 @@ nwk_asked s lent used b =
 
 abbrev pub caller_of : Result Who Refusal → Caller
 caller_of (Err why) = record { who = Err why; number = 0; sender = 0 }
-caller_of (Ok (who.Plain start len)) = record { who = Ok (who.Plain start len); number = 0; sender = 0 }
+caller_of (Ok (who.Told a)) = record { who = Ok (who.Told a); number = 0; sender = 0 }
 caller_of (Ok (who.Claims c)) = record { who = Ok (who.Claims c); number = number_of c.key; sender = c.sender }
 
 -- ---- the judgement
@@ -42,12 +42,14 @@ abbrev pub held_of : Standing → Option Cell
 held_of (Held row) = Some (row_cell row)
 held_of Free = None
 held_of Full = None
+held_of (HeldWithoutRoom row) = Some (row_cell row)
 
 -- a pair that has a row needs no free one
 abbrev pub room_of : Standing → Bool
 room_of (Held row) = true
 room_of Free = true
 room_of Full = false
+room_of (HeldWithoutRoom row) = false
 
 -- what a reaction tells, with room or without
 abbrev pub heard_from : Reaction Heard Cell → Bool → Heard
@@ -72,12 +74,12 @@ change_by c (Err why) = None
 -- the frame's octets after it, and what is judged
 abbrev pub heard_frame : Nwk → Result Who Refusal → Standing → List ℕ → List ℕ
 heard_frame s (Err why) standing b = b
-heard_frame s (Ok (who.Plain start len)) standing b = b
+heard_frame s (Ok (who.Told a)) standing b = b
 heard_frame s (Ok (who.Claims c)) standing b = (judged_heard s.keys c standing b).frame
 
 abbrev pub verdict_of : Nwk → Result Who Refusal → Standing → List ℕ → Verdict
 verdict_of s (Err why) standing b = record { answer = Err why; active = s.active; change = None }
-verdict_of s (Ok (who.Plain start len)) standing b = record { answer = Ok (Plain start len); active = s.active; change = None }
+verdict_of s (Ok (who.Told a)) standing b = record { answer = Ok a; active = s.active; change = None }
 verdict_of s (Ok (who.Claims c)) standing b =
     let a : Answer = (judged_heard s.keys c standing b).answer in
     record { answer = a; active = active_after s.active (number_of c.key) a; change = change_by c a }

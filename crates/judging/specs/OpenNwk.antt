@@ -62,7 +62,7 @@ nwk_committed s rows k t = record {
 
 unfoldable pub nwk_placed : Nwk → List CounterRow → ℕ → List ℕ → Result Who Refusal → Opened
 nwk_placed s rows used b (Err why) = unchanged s rows used (refused why b)
-nwk_placed s rows used b (Ok (who.Plain start len)) = unchanged s rows used (record { answer = Ok (Plain start len); frame = b })
+nwk_placed s rows used b (Ok (who.Told a)) = unchanged s rows used (record { answer = Ok a; frame = b })
 nwk_placed s rows used b (Ok (who.Claims c)) =
     let k : Pair = pair (number_of c.key) c.sender in
     nwk_committed s rows k

@@ -71,7 +71,7 @@ fn counter_of(standing: Standing) -> Option<u32>
     ensures { result ≡ counter_in (held_of standing) }
 {
     match standing {
-        Standing::Held(row) => Some(row.counter),
+        Standing::Held(row) | Standing::HeldWithoutRoom(row) => Some(row.counter),
         Standing::Free | Standing::Full => None,
     }
 }
@@ -81,7 +81,7 @@ fn has_room(standing: Standing) -> bool
 {
     match standing {
         Standing::Held(_) | Standing::Free => true,
-        Standing::Full => false,
+        Standing::Full | Standing::HeldWithoutRoom(_) => false,
     }
 }
 
@@ -130,8 +130,8 @@ pub fn judge(nwk: Nwk, who: Result<Who, Refusal>, standing: Standing, frame: &mu
             active,
             change,
         },
-        Ok(Who::Plain { start, len }) => Verdict {
-            answer: Ok(Accepted::Plain { start, len }),
+        Ok(Who::Told(accepted)) => Verdict {
+            answer: Ok(accepted),
             active,
             change,
         },

@@ -12,12 +12,14 @@ pub struct CounterRow {
     pub counter: u32,
 }
 
-// What is held for a key number and sender: a row; or none, with room for a new one; or none and no room.
+// What is held for a key number and sender: a row; or none, with room for a new one; or none and no room. A row without room to be
+// written again is what no search answers, since a row that is held needs none; `judging::judge` takes it all the same.
 #[derive(Clone, Copy, Debug, PartialEq, Eq)]
 pub enum Standing {
     Held(CounterRow),
     Free,
     Full,
+    HeldWithoutRoom(CounterRow),
 }
 
 // How many rows may be in use: 64, or as many as are lent if less.

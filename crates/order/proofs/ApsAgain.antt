@@ -50,7 +50,7 @@ rising c held b =
 reacts : (b : List ℕ) (w : Result Who Refusal) (k : ℕ) → sender_of w ≡ Some k → (held : Option PairCell) → Rising (λ p. p.incoming) opens (counter_of w) held (reaction b w held)
 unfolding reaction
 reacts b (Err why) k e held = cc
-reacts b (Ok (who.Plain start len)) k e held = cc
+reacts b (Ok (who.Told a)) k e held = cc
 reacts b (Ok (who.Claims c)) k e held = rising c held b
 
 opens-good : (g : Gateway) (b : List ℕ) → opens (answer g b) ≡ true → Good g

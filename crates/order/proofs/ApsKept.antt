@@ -42,7 +42,7 @@ module _ (s : Aps) (pairs : Pairs) (sixteen : length pairs.rows ≡ 16) (b : Lis
   aps-placed : pairs.used ≤ 16 → (w : Result Who Refusal) → ApsKept (aps_placed pairs b w)
   unfolding aps_placed
   aps-placed fits (Err why) n = refl
-  aps-placed fits (Ok (who.Plain start len)) n = refl
+  aps-placed fits (Ok (who.Told a)) n = refl
   aps-placed fits (Ok (who.Claims c)) n =
       ap (aps_committed pairs) (settle-kept pair_rows 16 (in_use pairs) c.sender b (aps-tame c (find pair_rows (in_use pairs) c.sender) b) n)
       ∙ (λ i. record {

@@ -37,7 +37,7 @@ module _ (g : Gateway) (b : List ℕ) (h : Good g) where
       → settled (aps_placed g.pairs b w) ≡ settle pair_rows 16 (in_use g.pairs) k (reaction b w (find pair_rows (in_use g.pairs) k))
   unfolding aps_placed reaction
   named-placed k (Err why) e = cc
-  named-placed k (Ok (who.Plain start len)) e = cc
+  named-placed k (Ok (who.Told a)) e = cc
   named-placed k (Ok (who.Claims c)) e =
       let t = settle pair_rows 16 (in_use g.pairs) c.sender (aps_judged c (find pair_rows (in_use g.pairs) c.sender) b) in
       rw (← same_Some c.sender k e) (λ i. record { out = t.out; rows = take-append_seam t.rows (drop (length t.rows) g.pairs.rows) i })
@@ -46,14 +46,14 @@ module _ (g : Gateway) (b : List ℕ) (h : Good g) where
   pub nameless-placed : (w : Result Who Refusal) → sender_of w ≡ None → settled (aps_placed g.pairs b w) ≡ record { out = reply_of (reaction b w None); rows = in_use g.pairs }
   unfolding aps_placed reaction reply_of
   nameless-placed (Err why) e = refl
-  nameless-placed (Ok (who.Plain start len)) e = refl
+  nameless-placed (Ok (who.Told a)) e = refl
   nameless-placed (Ok (who.Claims c)) e = cc
 
   -- not too many rows are in use after an opening
   stays-placed : (w : Result Who Refusal) → (aps_placed g.pairs b w).pairs.used ≤ 16
   unfolding aps_placed
   stays-placed (Err why) = h.fits
-  stays-placed (Ok (who.Plain start len)) = h.fits
+  stays-placed (Ok (who.Told a)) = h.fits
   stays-placed (Ok (who.Claims c)) =
       settle-fits pair_rows 16 (in_use g.pairs) c.sender (aps_judged c (find pair_rows (in_use g.pairs) c.sender) b) (simp length-take (omega (arith, h.fits)))
 

@@ -126,7 +126,7 @@ module _ (keys : NetworkKeys) (lent : ℕ) (two : keys.used ≤ 2) where
 
       at : (w : Result Who Refusal) → (placed w).active ≡ cond (opens_under (next g.nwk.active) (pair_of w) (placed w).answer) (next g.nwk.active) g.nwk.active
       at (Err why) = refl
-      at (Ok (who.Plain start len)) = refl
+      at (Ok (who.Told a)) = refl
       at (Ok (who.Claims c)) = turned-once g.nwk.active (claimed_pair c) (placed (Ok (who.Claims c))).answer
 
   -- ---- a list of frames

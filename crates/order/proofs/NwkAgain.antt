@@ -40,7 +40,7 @@ module _ (keys : NetworkKeys) (b : List ℕ) where
   reacts : (w : Result Who Refusal) (k : Pair) → pair_of w ≡ Some k → (held : Option Cell) → Rising (λ n. n.counter) opens (counter_of w) held (reaction keys b w held)
   unfolding reaction
   reacts (Err why) k e held = cc
-  reacts (Ok (who.Plain start len)) k e held = cc
+  reacts (Ok (who.Told a)) k e held = cc
   reacts (Ok (who.Claims c)) k e held = rising keys c held b
 
 -- a state in which a frame opens is one that is taken

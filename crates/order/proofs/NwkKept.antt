@@ -50,7 +50,7 @@ module _ (s : Nwk) (rows : List CounterRow) (used : ℕ) (b : List ℕ) where
   nwk-placed : used ≤ capacity (length rows) → (w : Result Who Refusal) → NwkKept (nwk_placed s rows used b w)
   unfolding nwk_placed
   nwk-placed fits (Err why) n = refl
-  nwk-placed fits (Ok (who.Plain start len)) n = refl
+  nwk-placed fits (Ok (who.Told a)) n = refl
   nwk-placed fits (Ok (who.Claims c)) n =
       ap (nwk_committed s rows k) (settle-kept counter_rows (capacity (length rows)) (take used rows) k b (nwk-tame s.keys c held b) n)
       ∙ (λ i. record {

@@ -46,7 +46,7 @@ module _ (keys : NetworkKeys) (lent : ℕ) (two : keys.used ≤ 2) where
       ≡ settle counter_rows (capacity lent) (rows_in_use g) k (reaction keys b w (find counter_rows (rows_in_use g) k))
   unfolding nwk_placed reaction
   named-placed g b k h (Err why) e = cc
-  named-placed g b k h (Ok (who.Plain start len)) e = cc
+  named-placed g b k h (Ok (who.Told a)) e = cc
   named-placed g b k h (Ok (who.Claims c)) e =
       let t = settle counter_rows (capacity lent) (rows_in_use g) (claimed_pair c) (nwk_judged keys c (find counter_rows (rows_in_use g) (claimed_pair c)) b) in
       rw (← same_Some (claimed_pair c) k e, h.same_keys, h.same-lent) (λ i. record { out = t.out; rows = over-used t.rows g.rows i })
@@ -56,7 +56,7 @@ module _ (keys : NetworkKeys) (lent : ℕ) (two : keys.used ≤ 2) where
       → settled (nwk_placed g.nwk g.rows g.used b w) ≡ record { out = reply_of (reaction keys b w None); rows = rows_in_use g }
   unfolding nwk_placed reaction reply_of
   nameless-placed g b (Err why) e = refl
-  nameless-placed g b (Ok (who.Plain start len)) e = refl
+  nameless-placed g b (Ok (who.Told a)) e = refl
   nameless-placed g b (Ok (who.Claims c)) e = cc
 
   -- as many rows are lent after an opening, and not too many are in use
@@ -64,7 +64,7 @@ module _ (keys : NetworkKeys) (lent : ℕ) (two : keys.used ≤ 2) where
       → (length (nwk_placed g.nwk g.rows g.used b w).rows ≡ lent) × ((nwk_placed g.nwk g.rows g.used b w).used ≤ capacity lent)
   unfolding nwk_placed
   stays-placed g b h (Err why) = (h.same-lent, h.fits)
-  stays-placed g b h (Ok (who.Plain start len)) = (h.same-lent, h.fits)
+  stays-placed g b h (Ok (who.Told a)) = (h.same-lent, h.fits)
   stays-placed g b h (Ok (who.Claims c)) =
       let r = nwk_judged g.nwk.keys c (find counter_rows (rows_in_use g) (claimed_pair c)) b in
       let few = settle-fits counter_rows (capacity lent) (rows_in_use g) (claimed_pair c) r (simp length-take (omega (arith, h.fits))) in

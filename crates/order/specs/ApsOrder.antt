@@ -6,7 +6,6 @@ use Rattle.aib.specs.declared.pairs.PairRow.{PairRow}
 use Rattle.aib.specs.Counters.{in_use}
 use Rattle.aib.specs.Pairs.{PairCell}
 use Rattle.answer.specs.declared.Refusal.{Refusal}
-use Rattle.answer.specs.declared.Accepted.TheVariants.{Plain}
 use Rattle.claims.specs.declared.Who.{Who}
 use Rattle.claims.specs.declared.Who.TheVariants as who
 use Rattle.protection.specs.Heard.{Heard}
@@ -16,7 +15,7 @@ use Rattle.order.specs.Aps.{Gateway}
 -- what a frame does to its sender's row, by what its headers say and what is held
 unfoldable pub reaction : List ℕ → Result Who Refusal → Option PairCell → Reaction Heard PairCell
 reaction b (Err why) held = leave (record { answer = Err why; frame = b })
-reaction b (Ok (who.Plain start len)) held = leave (record { answer = Ok (Plain start len); frame = b })
+reaction b (Ok (who.Told a)) held = leave (record { answer = Ok a; frame = b })
 reaction b (Ok (who.Claims c)) held = aps_judged c held b
 
 -- what an opening gives its frame, and the rows in use after it

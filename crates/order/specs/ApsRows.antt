@@ -53,7 +53,7 @@ opened_rows g b = either (λ (o : Opened). Heard-rows (in_use g.pairs) (in_use o
   where
     placed : (w : Result Who Refusal) → Heard-rows (in_use g.pairs) (in_use (aps_placed g.pairs b w).pairs)
     placed (Err why) = same
-    placed (Ok (who.Plain start len)) = same
+    placed (Ok (who.Told a)) = same
     placed (Ok (who.Claims c)) =
         let t = settle pair_rows 16 (in_use g.pairs) c.sender (aps_judged c (find pair_rows (in_use g.pairs) c.sender) b) in
         rw (take-append_seam t.rows (drop (length t.rows) g.pairs.rows)) (judged-rows (in_use g.pairs) c b)

@@ -108,7 +108,7 @@ turns s rows used b n h = at (nwk_unfit s rows used) h.opens
   where
     placed : (w : Result Who Refusal) → w ≡ Ok (who.Claims h.claim) → (nwk_placed s rows used b w).answer ≡ Ok (Done h.start h.len) → (nwk_placed s rows used b w).active ≡ turn s.active n
     placed (Err why) e f = cc
-    placed (Ok (who.Plain start len)) e f = cc
+    placed (Ok (who.Told a)) e f = cc
     placed (Ok (who.Claims c)) e f =
         let same : number_of c.key ≡ n = cc in
         ap (active_after s.active (number_of c.key)) f ∙ ap (turn s.active) same

@@ -5,7 +5,6 @@ use Rattle.nib.specs.declared.counters.CounterRow.{CounterRow}
 use Rattle.nib.specs.declared.keys.NetworkKeys.{NetworkKeys}
 use Rattle.nib.specs.Counters.{Cell, capacity}
 use Rattle.answer.specs.declared.Refusal.{Refusal}
-use Rattle.answer.specs.declared.Accepted.TheVariants.{Plain}
 use Rattle.claims.specs.declared.Who.{Who}
 use Rattle.claims.specs.declared.Who.TheVariants as who
 use Rattle.protection.specs.Heard.{Heard}
@@ -15,7 +14,7 @@ use Rattle.order.specs.Nwk.{Gateway}
 -- what a frame does to its pair's row, by what its headers say and what is held
 unfoldable pub reaction : NetworkKeys → List ℕ → Result Who Refusal → Option Cell → Reaction Heard Cell
 reaction keys b (Err why) held = leave (record { answer = Err why; frame = b })
-reaction keys b (Ok (who.Plain start len)) held = leave (record { answer = Ok (Plain start len); frame = b })
+reaction keys b (Ok (who.Told a)) held = leave (record { answer = Ok a; frame = b })
 reaction keys b (Ok (who.Claims c)) held = nwk_judged keys c held b
 
 abbrev pub rows_in_use : Gateway → List CounterRow

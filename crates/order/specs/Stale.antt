@@ -40,7 +40,7 @@ stale-shut {counter = counter} {h = h} s = at (dec_le s.held counter)
 -- the counter that a frame claims
 abbrev pub counter_of : Result Who Refusal → ℕ
 counter_of (Err why) = 0
-counter_of (Ok (who.Plain start len)) = 0
+counter_of (Ok (who.Told a)) = 0
 counter_of (Ok (who.Claims c)) = c.counter
 
 -- what is held is not above a counter that is not below it

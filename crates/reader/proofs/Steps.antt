@@ -7,7 +7,7 @@ use Rattle.cells.specs.Rows.{has_row, place_of}
 use Rattle.cells.proofs.Search.{lent_row, lent-cell}
 use Rattle.nib.specs.declared.counters.CounterRow.{CounterRow}
 use Rattle.nib.specs.declared.counters.Standing.{Standing}
-use Rattle.nib.specs.declared.counters.Standing.TheVariants.{Held, Free, Full}
+use Rattle.nib.specs.declared.counters.Standing.TheVariants.{Held, Free, Full, HeldWithoutRoom}
 use Rattle.nib.specs.declared.state.Nwk.{Nwk}
 use Rattle.nib.specs.Pairs.{Pair}
 use Rattle.nib.specs.Counters.{capacity, counter_rows, held_for, empty, standing}
@@ -20,6 +20,7 @@ abbrev pub is_held : Standing → Bool
 is_held (Held row) = true
 is_held Free = false
 is_held Full = false
+is_held (HeldWithoutRoom row) = true
 
 pub has_held : (rows : List CounterRow) (used : ℕ) (k : Pair) → used ≤ capacity (length rows) → has_row counter_rows (take used rows) k ≡ is_held (held_for rows used k)
 unfolding held_for

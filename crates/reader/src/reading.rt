@@ -106,7 +106,8 @@ impl Reader {
         let number = body[0];
         let sender = auxiliary_header::number_at(body, 1, 8);
         let counter = auxiliary_header::number_at(body, 9, 4) as u32;
-        if let Standing::Held(_) = by_value::held_with(&self.table, number, sender) {
+        let standing = by_value::held_with(&self.table, number, sender);
+        if let Standing::Held(_) | Standing::HeldWithoutRoom(_) = standing {
             return Err(Fault::RepeatedRow);
         }
         if let Ok(table) = by_value::record_with(self.table, number, sender, counter) {

@@ -3,7 +3,7 @@ use Rattle.std.proofs.Common.{sym, ◌∙◌}
 use Rattle.std.specs.Prelude.{Ok}
 use Rattle.std.proofs.lemmas.Result.{err_from_is_err_and}
 use Rattle.claims.proofs.ClaimLaws.{aps-claim}
-use Rattle.aps.proofs.OpeningLaws.{fit, opens-unfit, opens-refused, opens-plain, opens-claim}
+use Rattle.aps.proofs.OpeningLaws.{fit, opens-unfit, opens-refused, opens-told, opens-claim}
 use Rattle.aps.proofs.opening.open_aps.Goals as goal
 
 pub returns-then-unfit : goal.returns-then-unfit
@@ -20,9 +20,9 @@ open_claim-requires c =
     let z = aps-claim _ a.frame.now (sym c.aps_who.ensures ∙ c.in_ok-who.was ∙ (λ i. Ok (c.in-Claims.is i))) in
     (fit a.aps.level a.pairs.now.used (sym c.unfit.ensures ∙ c.if-unfit.false), z.inside, z.whole, z.taken)
 
-pub returns-in-Plain : goal.returns-in-Plain
-returns-in-Plain c =
-    opens-plain c.args.aps c.args.pairs.now c.args.frame.now (sym c.unfit.ensures ∙ c.if-unfit.false) _ _ (sym c.aps_who.ensures ∙ c.in_ok-who.was ∙ (λ i. Ok (c.in-Plain.is i)))
+pub returns-in-Told : goal.returns-in-Told
+returns-in-Told c =
+    opens-told c.args.aps c.args.pairs.now c.args.frame.now (sym c.unfit.ensures ∙ c.if-unfit.false) _ (sym c.aps_who.ensures ∙ c.in_ok-who.was ∙ (λ i. Ok (c.in-Told.is i)))
 
 pub returns-in-Claims : goal.returns-in-Claims
 returns-in-Claims c =
