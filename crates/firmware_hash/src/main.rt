@@ -38,14 +38,18 @@ impl fmt::Display for NoValue {
     }
 }
 
-// How far it is, for each four megabytes. What cannot be shown is lost.
+// A write that fails is lost, and the next is tried: the script takes what is no whole value for a failure.
+fn lost(written: io::Result<()>) {
+    written.is_ok();
+}
+
+// How far it is, for each four megabytes.
 fn show(rt: &HostRuntime, before: u32, total: u32) {
     if before / 4000000 == total / 4000000 {
         return;
     }
     let megabytes = total / 1000000;
-    let shown = eprint!(rt; "\r{megabytes} MB ");
-    shown.is_ok();
+    lost(eprint!(rt; "\r{megabytes} MB "));
 }
 
 // The value of all that is read, part after part. A read of nothing is the end of the input.
@@ -66,26 +70,21 @@ fn hash_input(rt: &HostRuntime, shows: bool) -> Result<[u8; 16], NoValue> {
     Ok(mmo::hash_finish(state)?)
 }
 
-// The octets in hexadecimal. `vectors` has these lines too: a crate for three lines is no plainer.
-fn print_value(rt: &HostRuntime, value: &[u8]) -> io::Result<()> {
+// The octets in hexadecimal.
+fn print_value(rt: &HostRuntime, value: &[u8]) {
     for octet in value {
-        print!(rt; "{octet:02x}")?;
+        lost(print!(rt; "{octet:02x}"));
     }
-    Ok(())
 }
 
-// Writing that fails is not told here: the script takes what is no whole value for a failure.
 fn main(rt: HostRuntime) {
     let shows = rt.stderr().is_terminal();
-    let printed = match hash_input(&rt, shows) {
+    match hash_input(&rt, shows) {
         Ok(value) => print_value(&rt, &value),
-        Err(why) => print!(rt; "{why}"),
-    };
-    printed.is_ok();
-    if shows {
-        let cleared = rt.stderr().write_all(b"\r        \r");
-        cleared.is_ok();
+        Err(why) => lost(print!(rt; "{why}")),
     }
-    let ended = rt.stdout().write_all(b"\n");
-    ended.is_ok();
+    if shows {
+        lost(rt.stderr().write_all(b"\r        \r"));
+    }
+    lost(rt.stdout().write_all(b"\n"));
 }

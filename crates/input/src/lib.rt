@@ -26,6 +26,9 @@ pub fn read_full<R: Read>(source: &mut R, space: &mut [u8]) -> io::Result<usize>
 {
     let mut count = 0;
     for _ in 0..space.len() {
+        if count == space.len() {
+            break;
+        }
         let more = source.read(&mut space[count..])?;
         if more == 0 {
             break;

@@ -5,7 +5,6 @@ use crate::telling::{Line, ROWS};
 use aib::{PairRow, Pairs};
 use by_value::CounterTable;
 use nib::{CounterRow, NetworkKey, NetworkKeys};
-use std::io;
 
 fn key_in(s: &[u8]) -> NetworkKey {
     nib::key_row(octet(s, 0), bytes_at(s, 1))
@@ -59,27 +58,29 @@ pub(crate) fn pairs_of(case: &Case<'_>) -> Pairs {
     }
 }
 
-fn tell_row(line: Line<'_>, row: CounterRow) -> io::Result<()> {
+fn tell_row(line: Line<'_>, row: CounterRow) {
     let CounterRow {
         number,
         sender,
         counter,
     } = row;
-    print!(line.rt; "{number:02x}{sender:016x}{counter:08x}")
+    let mut octets = [number; 13];
+    octets[1..9].copy_from_slice(&sender.to_be_bytes());
+    octets[9..].copy_from_slice(&counter.to_be_bytes());
+    line.octets(&octets);
 }
 
-pub(crate) fn tell_table(line: Line<'_>, table: &CounterTable) -> io::Result<()> {
+pub(crate) fn tell_table(line: Line<'_>, table: &CounterTable) {
     if !line.shows(ROWS) || table.used == 0 {
         return line.none(ROWS);
     }
-    line.text(" ")?;
+    line.text(" ");
     for row in table.rows.iter().take(table.used) {
-        tell_row(line, *row)?;
+        tell_row(line, *row);
     }
-    Ok(())
 }
 
-fn tell_pair(line: Line<'_>, row: PairRow) -> io::Result<()> {
+fn tell_pair(line: Line<'_>, row: PairRow) {
     let PairRow {
         device,
         attribute,
@@ -88,18 +89,22 @@ fn tell_pair(line: Line<'_>, row: PairRow) -> io::Result<()> {
         outgoing,
         incoming,
     } = row;
-    print!(line.rt; "{device:016x}{attribute:02x}")?;
-    line.octets(&key)?;
-    print!(line.rt; "{kind:02x}{outgoing:08x}{incoming:08x}")
+    let mut octets = [attribute; 9];
+    octets[..8].copy_from_slice(&device.to_be_bytes());
+    line.octets(&octets);
+    line.octets(&key);
+    let mut octets = [kind; 9];
+    octets[1..5].copy_from_slice(&outgoing.to_be_bytes());
+    octets[5..].copy_from_slice(&incoming.to_be_bytes());
+    line.octets(&octets);
 }
 
-pub(crate) fn tell_pairs(line: Line<'_>, pairs: &Pairs) -> io::Result<()> {
+pub(crate) fn tell_pairs(line: Line<'_>, pairs: &Pairs) {
     if !line.shows(ROWS) || pairs.used == 0 {
         return line.none(ROWS);
     }
-    line.text(" ")?;
+    line.text(" ");
     for row in pairs.rows.iter().take(pairs.used) {
-        tell_pair(line, *row)?;
+        tell_pair(line, *row);
     }
-    Ok(())
 }

@@ -14,13 +14,12 @@ mod telling;
 
 use asked::{Call, Case, Head};
 use input::{StandardInput, read_full};
-use std::io;
 use telling::Line;
 
 // No run takes more cases.
 const MOST: usize = 1000000;
 
-fn run(case: &Case<'_>, space: &mut [u8], line: Line<'_>) -> io::Result<()> {
+fn run(case: &Case<'_>, space: &mut [u8], line: Line<'_>) {
     let Ok(call) = Call::try_from(case.head.call) else {
         return line.text("unknown\n");
     };
@@ -50,12 +49,12 @@ fn run(case: &Case<'_>, space: &mut [u8], line: Line<'_>) -> io::Result<()> {
 
 // Reads a case and runs it. Whether there may be another. A case that is cut, or has more in it than is taken: the line `bad`, and
 // reading stops.
-fn step(rt: &HostRuntime, body: &mut [u8], space: &mut [u8]) -> io::Result<bool> {
+fn step(rt: &HostRuntime, body: &mut [u8], space: &mut [u8]) -> bool {
     let mut input = StandardInput { rt };
     let mut bytes = [0u8; 44];
-    let n = read_full(&mut input, &mut bytes)?;
+    let n = read_full(&mut input, &mut bytes).unwrap_or(0);
     if n == 0 {
-        return Ok(false);
+        return false;
     }
     let head = Head::read(&bytes);
     let line = Line {
@@ -64,30 +63,23 @@ fn step(rt: &HostRuntime, body: &mut [u8], space: &mut [u8]) -> io::Result<bool>
     };
     let wanted = head.size();
     if n < 44 || !head.fits() || body.len() < wanted {
-        line.text("bad\n")?;
-        return Ok(false);
+        line.text("bad\n");
+        return false;
     }
-    if read_full(&mut input, &mut body[..wanted])? < wanted {
-        line.text("bad\n")?;
-        return Ok(false);
+    if read_full(&mut input, &mut body[..wanted]).unwrap_or(0) < wanted {
+        line.text("bad\n");
+        return false;
     }
-    run(&Case::new(head, &body[..wanted]), space, line)?;
-    Ok(true)
+    run(&Case::new(head, &body[..wanted]), space, line);
+    true
 }
 
-fn replay(rt: &HostRuntime, body: &mut [u8], space: &mut [u8]) -> io::Result<()> {
-    for _ in 0..MOST {
-        if !step(rt, body, space)? {
-            break;
-        }
-    }
-    Ok(())
-}
-
-// A write that fails ends the run and is not told: what it prints is compared.
 fn main(rt: HostRuntime) {
     let mut body = [0u8; 131072];
     let mut space = [0u8; 4096];
-    let replayed = replay(&rt, &mut body, &mut space);
-    replayed.is_ok();
+    for _ in 0..MOST {
+        if !step(&rt, &mut body, &mut space) {
+            break;
+        }
+    }
 }

@@ -23,6 +23,11 @@ fn digit(n: u8) -> u8 {
     if low < 10 { 48 + low } else { 87 + low }
 }
 
+// A write that fails is lost, and the next is tried: what is printed is compared.
+fn lost(written: io::Result<()>) {
+    written.is_ok();
+}
+
 #[derive(Clone, Copy)]
 pub(crate) struct Line<'a> {
     pub rt: &'a HostRuntime,
@@ -34,46 +39,62 @@ impl<'a> Line<'a> {
         self.show & what != 0
     }
 
-    pub(crate) fn text(self, s: &str) -> io::Result<()> {
-        self.rt.stdout().write_all(s.as_bytes())
+    pub(crate) fn text(self, s: &str) {
+        lost(self.rt.stdout().write_all(s.as_bytes()));
     }
 
-    fn decimal(self, n: u64) -> io::Result<()> {
-        print!(self.rt; "{n}")
+    // A number, after the byte that leads it, if any. By hand too: `print!` took four times the instructions.
+    fn decimal(self, lead: Option<u8>, n: u64) {
+        let mut text = [lead.unwrap_or(0); 21];
+        let mut start = text.len();
+        let mut rest = n;
+        for (at, place) in text.iter_mut().enumerate().rev() {
+            *place = digit((rest % 10) as u8);
+            start = at;
+            rest /= 10;
+            if rest == 0 {
+                break;
+            }
+        }
+        // what stands before the digits is the lead
+        if lead.is_some() {
+            start = start.saturating_sub(1);
+        }
+        lost(self.rt.stdout().write_all(text.get(start..).unwrap_or(&[])));
     }
 
-    fn piece(self, s: &[u8]) -> io::Result<()> {
+    fn piece(self, s: &[u8]) {
         let mut digits = [0u8; 2 * PIECE];
         for (pair, x) in digits.chunks_exact_mut(2).zip(s) {
             pair[0] = digit(*x / 16);
             pair[1] = digit(*x);
         }
         let end = digits.len().min(2 * s.len().min(PIECE));
-        self.rt.stdout().write_all(&digits[..end])
+        lost(self.rt.stdout().write_all(&digits[..end]));
     }
 
-    pub(crate) fn octets(self, s: &[u8]) -> io::Result<()> {
+    pub(crate) fn octets(self, s: &[u8]) {
         for piece in s.chunks(PIECE) {
-            self.piece(piece)?;
+            self.piece(piece);
         }
-        Ok(())
     }
 
-    pub(crate) fn number_and_span(self, number: u8, start: usize, len: usize) -> io::Result<()> {
+    pub(crate) fn number_and_span(self, number: u8, start: usize, len: usize) {
         if self.shows(ANSWER) {
-            self.decimal(number as u64)?;
+            self.decimal(None, number as u64);
         } else {
-            self.text(".")?;
+            self.text(".");
         }
         if self.shows(SPAN) {
-            print!(self.rt; " {start} {len}")
+            self.decimal(Some(b' '), start as u64);
+            self.decimal(Some(b' '), len as u64);
         } else {
-            self.text(" . .")
+            self.text(" . .");
         }
     }
 
     // An answer, with its refusal led back to a class.
-    pub(crate) fn answer<F: Fn(Refusal) -> u8>(self, answer: Answer, class: F) -> io::Result<()>
+    pub(crate) fn answer<F: Fn(Refusal) -> u8>(self, answer: Answer, class: F)
         requires { F.IsAlwaysCallable class }
     {
         match answer {
@@ -83,11 +104,7 @@ impl<'a> Line<'a> {
         }
     }
 
-    pub(crate) fn outcome<F: Fn(Refusal) -> u8>(
-        self,
-        outcome: Result<(), Refusal>,
-        class: F,
-    ) -> io::Result<()>
+    pub(crate) fn outcome<F: Fn(Refusal) -> u8>(self, outcome: Result<(), Refusal>, class: F)
         requires { F.IsAlwaysCallable class }
     {
         match outcome {
@@ -97,37 +114,34 @@ impl<'a> Line<'a> {
     }
 
     // The only number, or the first of some.
-    pub(crate) fn number(self, n: u64) -> io::Result<()> {
-        self.text(" ")?;
+    pub(crate) fn number(self, n: u64) {
         if self.shows(NUMBERS) {
-            self.decimal(n)
+            self.decimal(Some(b' '), n);
         } else {
-            self.text(".")
+            self.text(" .");
         }
     }
 
-    pub(crate) fn next(self, n: u64) -> io::Result<()> {
+    pub(crate) fn next(self, n: u64) {
         if self.shows(NUMBERS) {
-            print!(self.rt; ",{n}")
-        } else {
-            Ok(())
+            self.decimal(Some(b','), n);
         }
     }
 
-    pub(crate) fn none(self, what: u8) -> io::Result<()> {
-        self.text(if self.shows(what) { " -" } else { " ." })
+    pub(crate) fn none(self, what: u8) {
+        self.text(if self.shows(what) { " -" } else { " ." });
     }
 
     // The bytes, and the line's end.
-    pub(crate) fn bytes(self, s: &[u8]) -> io::Result<()> {
+    pub(crate) fn bytes(self, s: &[u8]) {
         if s.is_empty() {
-            self.none(BYTES)?;
+            self.none(BYTES);
         } else if self.shows(BYTES) {
-            self.text(" ")?;
-            self.octets(s)?;
+            self.text(" ");
+            self.octets(s);
         } else {
-            self.text(" .")?;
+            self.text(" .");
         }
-        self.text("\n")
+        self.text("\n");
     }
 }
