@@ -44,7 +44,7 @@ held_of Free = None
 held_of Full = None
 held_of (HeldWithoutRoom row) = Some (row_cell row)
 
--- a pair that has a row needs no free one
+-- a pair that has a row needs no free one, but for `HeldWithoutRoom`, which no search answers
 abbrev pub room_of : Standing → Bool
 room_of (Held row) = true
 room_of Free = true
