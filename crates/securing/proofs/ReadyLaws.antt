@@ -152,12 +152,18 @@ module _ (s : Nwk) (o : Outgoing) (plain out : List ℕ) where
     -- the counter is taken, and the frame written under it
     pub sent : (r : Result ℕ Refusal) (o' : Outgoing) → took r o' ≡ taken o → (counter : ℕ) → r ≡ Ok counter
         → (y : List ℕ) → y ≡ nwk_on_air s counter plain header ++ drop (length plain + nwk_added) out
-        → record { answer = Ok ready.answer; out = y; outgoing = o' } ≡ secure_nwk s o plain out
+        → record { answer = Ok (Done 0 (length plain + nwk_added)); out = y; outgoing = o' } ≡ secure_nwk s o plain out
     sent r o' k counter e y f =
         let w : record { outcome = Ok tt; counter = counter; outgoing = o' } ≡ record { outcome = Ok tt; counter = o.next; outgoing = record { next = o.next + 1 } } = (ap (λ (x : Result ℕ Refusal). took x o') (sym e) ∙ k) ∙ takes in
-        let t : ready.answer ≡ Done 0 (length plain + nwk_added) = ap (λ (x : Ready). x.answer) (ready-read ready is-asked) in
-        (λ i. record { answer = Ok (t i); out = (f ∙ ap (λ (x : AfterTaking). nwk_on_air s x.counter plain header ++ drop (length plain + nwk_added) out) w) i; outgoing = (w i).outgoing })
+        (λ i. record { answer = Ok (Done 0 (length plain + nwk_added)); out = (f ∙ ap (λ (x : AfterTaking). nwk_on_air s x.counter plain header ++ drop (length plain + nwk_added) out) w) i; outgoing = (w i).outgoing })
         ∙ done
+
+    -- the same, of the answer that was ready before
+    pub secured-sent : (r : Result ℕ Refusal) (o' : Outgoing) → took r o' ≡ taken o → (counter : ℕ) → r ≡ Ok counter
+        → (y : List ℕ) → y ≡ nwk_on_air s counter plain header ++ drop (length plain + nwk_added) out
+        → record { answer = Ok ready.answer; out = y; outgoing = o' } ≡ secure_nwk s o plain out
+    secured-sent r o' k counter e y f =
+        ap (λ (x : Ready). record { answer = Ok x.answer; out = y; outgoing = o' }) (ready-read ready is-asked) ∙ sent r o' k counter e y f
 
     -- no counter that may be used is refused
     pub taken-is : (r : Result ℕ Refusal) (o' : Outgoing) (why : Refusal) → took r o' ≡ taken o → r ≡ Err why → ⊥

@@ -1,7 +1,7 @@
 -- `nwk::secure::secure_nwk` meets its contract. Assumes nothing.
 use Rattle.std.proofs.Common.{◌≡◌, sym, ap, ◌∙◌}
 use Rattle.std.proofs.lemmas.Result.{err_from_is_err_and}
-use Rattle.securing.proofs.ReadyLaws.{refuses, goes, sent, taken-is}
+use Rattle.securing.proofs.ReadyLaws.{refuses, goes, secured-sent, taken-is}
 use Rattle.nwk.proofs.secure.secure_nwk.Goals as goal
 
 pub returns-in_err-ready : goal.returns-in_err-ready
@@ -23,4 +23,4 @@ finish-requires c =
 pub returns : goal.returns
 returns c =
     let a = c.args in
-    sent a.nwk a.outgoing.now a.plain.now a.out.now _ (sym c.ready_for.ensures ∙ c.in_ok-ready.was) _ _ c.take.ensures _ c.in_ok-counter.was _ c.finish.ensures
+    secured-sent a.nwk a.outgoing.now a.plain.now a.out.now _ (sym c.ready_for.ensures ∙ c.in_ok-ready.was) _ _ c.take.ensures _ c.in_ok-counter.was _ c.finish.ensures
